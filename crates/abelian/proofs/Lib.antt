@@ -1,0 +1,6 @@
+pub mod Tests
+pub mod Lists
+pub mod Counts
+pub mod Pairs
+pub mod Definition1
+pub mod Marked

@@ -1,0 +1,104 @@
+-- Laws of the functions on lists that the definitions are made of.
+use mathlib.Core.Path.{_≡_, refl, sym, ap, subst, _∙_}
+use mathlib.Core.Logic.{_⊎_, inl, inr, ⊎-elim, _≢_}
+use mathlib.Core.Bool.{Bool, true, false, _&&_}
+use mathlib.Core.List.{List, [], _∷_, _++_, map, List·Memᴰ, List·Memᴰ·head, List·Memᴰ·tail, List·Memᴰ·cases-cons, List·Memᴰ·append-cases, Memᴰ·append-left, Memᴰ·append-right, List·Memᴰ·not-nil, Memᴰ·cast}
+use Prim.Native.Nat.{ℕ, zero, suc, _+_, _*_, _≤_, _<_}
+use native.Mathlib.Nat.{not-suc-le-zero}
+use native.Mathlib.Omega.{arith}
+use lib.ListN.{length, getD, length-append}
+use lib.Dec.{T, eqb, eqb→eq, eqb-refl}
+use borrow.Author.Tests.{eqb-true, eqb-false}
+use Rattle.abelian.specs.Lists.{pick, upFrom, sum, same, put, keep, all, join, each, firstOf}
+use Rattle.abelian.proofs.Tests.{both, left, right, decided, passes, fails}
+
+-- ---- equal lists of numbers
+
+pub same-equal : (u v : List ℕ) → T (same u v) → u ≡ v
+same-equal [] [] t = refl
+same-equal [] (y ∷ v) t = absurd t
+same-equal (x ∷ u) [] t = absurd t
+same-equal (x ∷ u) (y ∷ v) t =
+    let e : x ≡ y = eqb→eq x y (left (eqb x y) (same u v) t) in
+    let es : u ≡ v = same-equal u v (right (eqb x y) (same u v) t) in
+    cc
+
+pub same-refl : (u : List ℕ) → T (same u u)
+same-refl [] = tt
+same-refl (x ∷ u) = both (eqb x x) (same u u) (eqb-refl x) (same-refl u)
+
+pub equal-same : (u v : List ℕ) → u ≡ v → T (same u v)
+equal-same u v e = subst (λ (l : List ℕ). T (same u l)) e (same-refl u)
+
+-- ---- membership
+
+module _ {A : Type 0} where
+  -- what stands in `put b x xs` is x, where the test passes, or stands in xs
+  mem-put : (b : Bool) (x : A) (xs : List A) {a : A} → List·Memᴰ a (put b x xs) → ((a ≡ x) × T b) ⊎ List·Memᴰ a xs
+  mem-put true x xs m = ⊎-elim (λ q. inl (q, tt)) inr (List·Memᴰ·cases-cons m)
+  mem-put false x xs m = inr m
+
+  put-mem : (b : Bool) (x : A) (xs : List A) {a : A} → List·Memᴰ a xs → List·Memᴰ a (put b x xs)
+  put-mem true x xs m = List·Memᴰ·tail m
+  put-mem false x xs m = m
+
+  put-head : (b : Bool) (x : A) (xs : List A) {a : A} → a ≡ x → T b → List·Memᴰ a (put b x xs)
+  put-head true x xs q t = List·Memᴰ·head q
+  put-head false x xs q t = absurd t
+
+module _ {A : Type 0} (f : A → Bool) where
+  -- what a list keeps is in the list and passes the test
+  pub mem-keep : (xs : List A) {a : A} → List·Memᴰ a (keep f xs) → List·Memᴰ a xs × T (f a)
+  mem-keep [] m = absurd (List·Memᴰ·not-nil m)
+  mem-keep (x ∷ xs) {a} m =
+      ⊎-elim (λ (q : (a ≡ x) × T (f x)). (List·Memᴰ·head (q .0), subst (λ (y : A). T (f y)) (sym (q .0)) (q .1)))
+      (λ m′. (List·Memᴰ·tail (mem-keep xs m′ .0), mem-keep xs m′ .1)) (mem-put (f x) x (keep f xs) m)
+
+  -- what is in the list and passes the test is kept
+  pub keep-mem : (xs : List A) {a : A} → List·Memᴰ a xs → T (f a) → List·Memᴰ a (keep f xs)
+  keep-mem [] m t = absurd (List·Memᴰ·not-nil m)
+  keep-mem (x ∷ xs) {a} m t =
+      ⊎-elim (λ (q : a ≡ x). put-head (f x) x (keep f xs) q (subst (λ (y : A). T (f y)) q t))
+      (λ m′. put-mem (f x) x (keep f xs) (keep-mem xs m′ t)) (List·Memᴰ·cases-cons m)
+
+  pub all-mem : (xs : List A) {a : A} → T (all f xs) → List·Memᴰ a xs → T (f a)
+  all-mem [] t m = absurd (List·Memᴰ·not-nil m)
+  all-mem (x ∷ xs) {a} t m =
+      ⊎-elim (λ (q : a ≡ x). subst (λ (y : A). T (f y)) (sym q) (left (f x) (all f xs) t))
+      (λ m′. all-mem xs (right (f x) (all f xs) t) m′) (List·Memᴰ·cases-cons m)
+
+  pub mem-all : (xs : List A) → ((a : A) → List·Memᴰ a xs → T (f a)) → T (all f xs)
+  mem-all [] h = tt
+  mem-all (x ∷ xs) h = both (f x) (all f xs) (h x (List·Memᴰ·head refl)) (mem-all xs (λ a m. h a (List·Memᴰ·tail m)))
+
+-- the numbers of `upFrom a n` are those from a up to, not including, a + n
+pub mem-upFrom : (a n : ℕ) {k : ℕ} → List·Memᴰ k (upFrom a n) → (a ≤ k) × (k < a + n)
+mem-upFrom a zero m = absurd (List·Memᴰ·not-nil m)
+mem-upFrom a (suc n) {k} m =
+    ⊎-elim (λ (q : k ≡ a). omega arith) (λ m′. let h : (suc a ≤ k) × (k < suc a + n) = mem-upFrom (suc a) n m′ in omega arith)
+    (List·Memᴰ·cases-cons m)
+
+pub upFrom-mem : (a n k : ℕ) → a ≤ k → k < a + n → List·Memᴰ k (upFrom a n)
+upFrom-mem a zero k h l = absurd (omega arith)
+upFrom-mem a (suc n) k h l =
+    ⊎-elim (λ e. List·Memᴰ·head (eqb-true k a e))
+    (λ e. List·Memᴰ·tail (upFrom-mem (suc a) n k (let ne : k ≢ a = eqb-false k a e in omega arith) (omega arith))) (decided (eqb k a))
+
+pub length-upFrom : (a n : ℕ) → length (upFrom a n) ≡ n
+length-upFrom a zero = refl
+length-upFrom a (suc n) = ap suc (length-upFrom (suc a) n)
+
+module _ {A B : Type 0} (f : A → List B) where
+  -- what stands in `each xs f` stands in f of some element
+  pub mem-each : (xs : List A) {b : B} → List·Memᴰ b (each xs f) → (a : A) × List·Memᴰ a xs × List·Memᴰ b (f a)
+  mem-each [] m = absurd (List·Memᴰ·not-nil m)
+  mem-each (x ∷ xs) {b} m =
+      ⊎-elim (λ (h : List·Memᴰ b (f x)). (x, List·Memᴰ·head refl, h))
+      (λ m′. let r : (a : A) × List·Memᴰ a xs × List·Memᴰ b (f a) = mem-each xs m′ in (r .0, List·Memᴰ·tail (r .1), r .2))
+      (List·Memᴰ·append-cases (f x) m)
+
+  pub each-mem : (xs : List A) {a : A} {b : B} → List·Memᴰ a xs → List·Memᴰ b (f a) → List·Memᴰ b (each xs f)
+  each-mem [] m h = absurd (List·Memᴰ·not-nil m)
+  each-mem (x ∷ xs) {a} {b} m h =
+      ⊎-elim (λ (q : a ≡ x). Memᴰ·append-left (each xs f) (subst (λ (y : A). List·Memᴰ b (f y)) q h))
+      (λ m′. Memᴰ·append-right (f x) (each-mem xs m′ h)) (List·Memᴰ·cases-cons m)

@@ -1,0 +1,113 @@
+-- Laws of pairs: the list of pairs has exactly the pairs in range, and rises by p and then h.
+use mathlib.Core.Path.{_≡_, refl, sym, ap, subst, _∙_}
+use mathlib.Core.Logic.{_⊎_, inl, inr, ⊎-elim}
+use mathlib.Core.Bool.{Bool, true, false, _&&_}
+use mathlib.Core.List.{List, [], _∷_, _++_, map, List·Memᴰ, List·Memᴰ·head, List·Memᴰ·tail, List·Memᴰ·cases-cons, List·Memᴰ·not-nil, List·Memᴰ·append-cases, Memᴰ·map, Memᴰ·of-map}
+use Prim.Native.Nat.{ℕ, zero, suc, _+_, _-_, _*_, _≤_, _<_, min}
+use native.Mathlib.Omega.{arith}
+use lib.Dec.{T, leb, ltb, leb→le, le→leb, ltb→lt, lt→ltb}
+use Rattle.abelian.specs.Lists.{upFrom, put, keep, each}
+use Rattle.abelian.specs.Periods.{Pair, pair, inRange, heads, row, pairs, Before, Rising}
+use Rattle.abelian.proofs.Tests.{both, left, right}
+use Rattle.abelian.proofs.Lists.{mem-keep, mem-upFrom, upFrom-mem, mem-each, each-mem}
+
+-- ---- the range
+
+-- the three conditions of a pair in range, as facts about numbers
+pub record InRange (n : ℕ) (x : Pair) : Type 0 where
+  pub positive : 1 ≤ x .period
+  pub below : x .head < x .period
+  pub fits : x .head + x .period ≤ n
+
+pub in-range : (n : ℕ) (x : Pair) → T (inRange n x) → InRange n x
+unfolding inRange
+in-range n x t =
+    let p : Bool = leb 1 (x .period) in
+    let h : Bool = ltb (x .head) (x .period) in
+    let f : Bool = leb (x .head + x .period) n in
+    let t′ : T (p && h) = left (p && h) f t in
+    record {
+      positive = leb→le 1 (x .period) (left p h t′);
+      below = ltb→lt (x .head) (x .period) (right p h t′);
+      fits = leb→le (x .head + x .period) n (right (p && h) f t);
+    }
+
+pub range-in : (n : ℕ) (x : Pair) → InRange n x → T (inRange n x)
+unfolding inRange
+range-in n x r =
+    let p : Bool = leb 1 (x .period) in
+    let h : Bool = ltb (x .head) (x .period) in
+    let f : Bool = leb (x .head + x .period) n in
+    both (p && h) f (both p h (le→leb 1 (x .period) (r .positive)) (lt→ltb (x .head) (x .period) (r .below)))
+    (le→leb (x .head + x .period) n (r .fits))
+
+-- ---- membership
+
+mem-row : (n p : ℕ) {x : Pair} → 1 ≤ p → List·Memᴰ x (row n p) → InRange n x × (x .period ≡ p)
+unfolding row heads
+mem-row n p {x} l m =
+    let r : (h : ℕ) × List·Memᴰ h (upFrom 0 (min p (suc n - p))) × (pair h p ≡ x) = Memᴰ·of-map (λ (h : ℕ). pair h p) (upFrom 0 (min p (suc n - p))) m in
+    let b : (0 ≤ r .0) × (r .0 < 0 + min p (suc n - p)) = mem-upFrom 0 (min p (suc n - p)) (r .1) in
+    subst (λ (y : Pair). InRange n y × (y .period ≡ p)) (r .2)
+    (record { positive = l; below = omega arith; fits = omega arith }, refl)
+
+-- a pair is in the list of pairs exactly where it is in range
+pub pairs-in-range : (n : ℕ) (x : Pair) → List·Memᴰ x (pairs n) → T (inRange n x)
+unfolding pairs
+pairs-in-range n x m =
+    let r : (p : ℕ) × List·Memᴰ p (upFrom 1 n) × List·Memᴰ x (row n p) = mem-each (row n) (upFrom 1 n) m in
+    range-in n x (mem-row n (r .0) (mem-upFrom 1 n (r .1) .0) (r .2) .0)
+
+pub in-range-pairs : (n : ℕ) (x : Pair) → T (inRange n x) → List·Memᴰ x (pairs n)
+unfolding pairs row heads
+in-range-pairs n x t =
+    let r : InRange n x = in-range n x t in
+    each-mem (row n) (upFrom 1 n) (upFrom-mem 1 n (x .period) (r .positive) (omega arith))
+    (Memᴰ·map (λ (h : ℕ). pair h (x .period)) (upFrom-mem 0 (heads n (x .period)) (x .head) (omega arith) (omega arith)))
+
+-- ---- order
+
+pub rising-append : (xs ys : List Pair) → Rising xs → Rising ys → ((x y : Pair) → List·Memᴰ x xs → List·Memᴰ y ys → Before x y) → Rising (xs ++ ys)
+rising-append [] ys r s h = s
+rising-append (x ∷ xs) ys r s h = (
+  λ y m. ⊎-elim (r .0 y) (h x y (List·Memᴰ·head refl)) (List·Memᴰ·append-cases xs m),
+  rising-append xs ys (r .1) s (λ a b m. h a b (List·Memᴰ·tail m)),
+)
+
+-- what a rising list keeps rises
+pub rising-keep : (f : Pair → Bool) (xs : List Pair) → Rising xs → Rising (keep f xs)
+rising-keep f [] r = tt
+rising-keep f (x ∷ xs) r = go (f x) (rising-keep f xs (r .1))
+  where
+    go : (b : Bool) → Rising (keep f xs) → Rising (put b x (keep f xs))
+    go true s = (λ y m. r .0 y (mem-keep f xs m .0), s)
+    go false s = s
+
+rising-heads : (p a m : ℕ) → Rising (map (λ (h : ℕ). pair h p) (upFrom a m))
+rising-heads p a zero = tt
+rising-heads p a (suc m) = (
+  λ y e.
+      let r : (h : ℕ) × List·Memᴰ h (upFrom (suc a) m) × (pair h p ≡ y) = Memᴰ·of-map (λ (h : ℕ). pair h p) (upFrom (suc a) m) e in
+      inr (
+        ap (λ (z : Pair). z .period) (r .2),
+        subst (λ (z : Pair). a < z .head) (r .2) (mem-upFrom (suc a) m (r .1) .0),
+      ),
+  rising-heads p (suc a) m,
+)
+
+rising-rows : (n a m : ℕ) → 1 ≤ a → Rising (each (upFrom a m) (row n))
+unfolding row
+rising-rows n a zero l = tt
+rising-rows n a (suc m) l =
+    rising-append (row n a) (each (upFrom (suc a) m) (row n)) (rising-heads a 0 (heads n a)) (rising-rows n (suc a) m (omega arith))
+    (λ x y e f.
+    let r : (p : ℕ) × List·Memᴰ p (upFrom (suc a) m) × List·Memᴰ y (row n p) = mem-each (row n) (upFrom (suc a) m) f in
+    let b : (suc a ≤ r .0) × (r .0 < suc a + m) = mem-upFrom (suc a) m (r .1) in
+    let px : x .period ≡ a = mem-row n a l e .1 in
+    let py : y .period ≡ r .0 = mem-row n (r .0) (omega arith) (r .2) .1 in
+    inl (omega arith))
+
+-- the list of pairs rises by p and then h
+pub pairs-rising : (n : ℕ) → Rising (pairs n)
+unfolding pairs
+pairs-rising n = rising-rows n 1 n (omega arith)

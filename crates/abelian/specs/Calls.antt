@@ -1,0 +1,67 @@
+-- What each call on a word answers, and what it leaves in the slice: from the word and, for a list, the slice as it came.
+use Prim.Native.Nat.{ℕ}
+use mathlib.Core.Bool.{false, not}
+use mathlib.Core.List.{List, [], _∷_, _++_, map}
+use lib.ListN.{length}
+use lib.Dec.{ltb}
+use Rattle.abelian.specs.Lists.{one}
+use Rattle.abelian.specs.Periods.{Pair, inRange, periods}
+use Rattle.abelian.specs.Output.{periodWord, fullWord, reportHead, fill}
+use Rattle.abelian.specs.Trials.{plainTrials, skippingTrials}
+use Rattle.abelian.specs.FullPeriods.{fullPeriods, scale, scaledGap}
+use Rattle.abelian.specs.Judge.{Failure, failures}
+use Rattle.abelian.specs.Squares.{squareWords}
+use Rattle.abelian.specs.Covers.{coverLength}
+use Rattle.abelian.specs.Refusals.{wordRefusal}
+use Rattle.abelian.specs.Answers.{Answer, writing, failing, covering, unless}
+
+-- yes, or the first failure
+unfoldable pub verdictOf : List Failure → Answer
+verdictOf [] = failing 0 0
+verdictOf (f ∷ fs) = failing (f .block) (f .letter)
+
+-- "Judge": refusals 1, 2, 7, else the verdict.
+unfoldable pub judging : List ℕ → Pair → Answer
+judging w x = unless (wordRefusal w (not (inRange (length w) x)) 0 0) [] (verdictOf (failures w x))
+
+-- A list call: refusals 1, 2, 3, else the words in the first places, their number, and the numbers that belong to the call.
+unfoldable pub listing : List ℕ → List ℕ → List ℕ → ℕ → ℕ → ℕ → Answer
+listing w out ws trials s t =
+    unless (wordRefusal w false (length ws) (length out)) out (writing (length ws) trials s t (fill ws out))
+
+-- the words of the Abelian periods, in pair order
+unfoldable pub periodWords : List ℕ → List ℕ
+periodWords w = map periodWord (periods w)
+
+-- the words of the full periods, by rising p
+unfoldable pub fullWords : List ℕ → List ℕ
+fullWords w = map (fullWord (length w)) (fullPeriods w)
+
+-- "The two listers": both write all Abelian periods and report trials.
+unfoldable pub plainListing : List ℕ → List ℕ → Answer
+plainListing w out = listing w out (periodWords w) (plainTrials w) 0 0
+
+unfoldable pub skippingListing : List ℕ → List ℕ → Answer
+skippingListing w out = listing w out (periodWords w) (skippingTrials w) 0 0
+
+-- "Two paths, plain and scaled, list them by rising p. The scaled path also answers s and T."
+unfoldable pub fullListing : List ℕ → List ℕ → Answer
+fullListing w out = listing w out (fullWords w) 0 0 0
+
+unfoldable pub scaledListing : List ℕ → List ℕ → Answer
+scaledListing w out = listing w out (fullWords w) 0 (scale w) (scaledGap w)
+
+-- "Squares".
+unfoldable pub squareListing : List ℕ → List ℕ → Answer
+squareListing w out = listing w out (squareWords w) 0 0 0
+
+-- "Cover": refusals 1, 2, else a length or none.
+unfoldable pub coverAnswer : List ℕ → Answer
+coverAnswer w = unless (wordRefusal w false 0 0) [] (covering (coverLength w))
+
+-- "Report": one word of kind 8, then full periods, periods, squares.
+unfoldable pub reportWords : List ℕ → List ℕ
+reportWords w = reportHead (length w) (one (ltb 0 (coverLength w))) ∷ (fullWords w ++ (periodWords w ++ squareWords w))
+
+unfoldable pub reporting : List ℕ → List ℕ → Answer
+reporting w out = listing w out (reportWords w) 0 0 0

@@ -1,0 +1,15 @@
+pub mod Lists
+pub mod Words
+pub mod Periods
+pub mod Output
+pub mod Trials
+pub mod FullPeriods
+pub mod EndedLengths
+pub mod Judge
+pub mod Squares
+pub mod Covers
+pub mod Refusals
+pub mod Answers
+pub mod Calls
+pub mod Trackers
+pub mod Marked

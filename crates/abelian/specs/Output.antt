@@ -1,0 +1,29 @@
+-- Output words: how a list is written to a lent slice of 32-bit words.
+use Prim.Native.Nat.{ℕ, _+_, _*_, _/_, _^_}
+use mathlib.Core.List.{List, _++_}
+use lib.ListN.{length, drop}
+use Rattle.abelian.specs.Periods.{Pair}
+
+-- kind × 2^28 + upper × 2^14 + lower
+unfoldable pub outputWord : ℕ → ℕ → ℕ → ℕ
+outputWord kind upper lower = kind * 2 ^ 28 + upper * 2 ^ 14 + lower
+
+-- "1 period": p above, h below.
+unfoldable pub periodWord : Pair → ℕ
+periodWord x = outputWord 1 (x .period) (x .head)
+
+-- "2 square": the half length above, the start below.
+unfoldable pub squareWord : ℕ → ℕ → ℕ
+squareWord half start = outputWord 2 half start
+
+-- "3 full period": p above, n / p below.
+unfoldable pub fullWord : ℕ → ℕ → ℕ
+fullWord n p = outputWord 3 p (n / p)
+
+-- "8 report head": n above, and below 1 if a cover exists, else 0.
+unfoldable pub reportHead : ℕ → ℕ → ℕ
+reportHead n covered = outputWord 8 n covered
+
+-- An accepted list fills the first places and keeps the rest of the slice.
+unfoldable pub fill : List ℕ → List ℕ → List ℕ
+fill ws out = ws ++ drop (length ws) out
