@@ -218,6 +218,9 @@ letters-take k w t = letters-left (take k w) (drop k w) (subst (λ (l : List ℕ
 pub letters-drop : (k : ℕ) (w : List ℕ) → T (ofLetters w) → T (ofLetters (drop k w))
 letters-drop k w t = letters-right (take k w) (drop k w) (subst (λ (l : List ℕ). T (ofLetters l)) (sym (take-append-drop k w)) t)
 
+pub letters-part : (w : List ℕ) (from size : ℕ) → T (ofLetters w) → T (ofLetters (part w from size))
+letters-part w from size t = letters-take size (drop from w) (letters-drop from w t)
+
 -- the sum of a vector is the length
 pub sum-vector : (w : List ℕ) → T (ofLetters w) → sum (vector w) ≡ length w
 unfolding vector

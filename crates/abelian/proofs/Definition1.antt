@@ -22,7 +22,7 @@ use Rattle.abelian.proofs.Pairs.{InRange, in-range, range-in, pairs-in-
 -- ---- the test's four conditions
 
 -- all whole blocks have block 1's vector
-pub Alike : List ℕ → Pair → Type 0
+abbrev pub Alike : List ℕ → Pair → Type 0
 Alike w x = (k : ℕ) → 1 ≤ k → k ≤ wholeBlocks (length w) x → vector (block w x k) ≡ vector (block w x 1)
 
 pub record Conditions (w : List ℕ) (x : Pair) : Type 0 where
@@ -48,7 +48,7 @@ module _ (w : List ℕ) (x : Pair) where
   t = contained (vector (tailOf w x)) (vector (block w x 1))
 
   pub period-conditions : T (isPeriod w x) → Conditions w x
-  unfolding isPeriod Alike
+  unfolding isPeriod
   period-conditions p =
       let rha : T (r && h && a) = left (r && h && a) t p in
       let rh : T (r && h) = left (r && h) a rha in
@@ -62,7 +62,7 @@ module _ (w : List ℕ) (x : Pair) where
       }
 
   pub conditions-period : Conditions w x → T (isPeriod w x)
-  unfolding isPeriod Alike
+  unfolding isPeriod
   conditions-period c =
       both (r && h && a) t
       (both (r && h) a (both r h (range-in (length w) x (c .range)) (c .headContained))
@@ -118,7 +118,6 @@ module _ (w : List ℕ) (x : Pair) (r : InRange (length w) x) where
       go (suc k) e l = (k, e)
 
 pub period-definition : (w : List ℕ) (x : Pair) → T (isPeriod w x) → AbelianPeriod w x
-unfolding Alike
 period-definition w x p =
     let c : Conditions w x = period-conditions w x p in
     let b : (k : ℕ) × (wholeBlocks (length w) x ≡ suc k) = some-block w x (c .range) in
@@ -206,7 +205,7 @@ letters-join (b ∷ bs) u t m =
     (letters-join bs u (letters-right b (join bs) t)) (List·Memᴰ·cases-cons m)
 
 pub definition-period : (w : List ℕ) (x : Pair) → T (ofLetters w) → AbelianPeriod w x → T (isPeriod w x)
-unfolding Sized Alike
+unfolding Sized
 definition-period w x t d =
     let bs : List (List ℕ) = d .first ∷ d .others in
     let u : List ℕ = d .head in

@@ -8,9 +8,9 @@ use native.Mathlib.Nat.{not-suc-le-zero}
 use native.Mathlib.Omega.{arith}
 use lib.ListN.{length, getD, length-append}
 use lib.Dec.{T, eqb, eqb→eq, eqb-refl}
-use borrow.Author.Tests.{eqb-true, eqb-false}
+use borrow.Author.Tests.{eqb-true, eqb-false, ne-eqb}
 use Rattle.abelian.specs.Lists.{pick, upFrom, sum, same, put, keep, all, join, each, firstOf}
-use Rattle.abelian.proofs.Tests.{both, left, right, decided, passes, fails}
+use Rattle.abelian.proofs.Tests.{is-false, both, left, right, decided, passes, fails}
 
 -- ---- equal lists of numbers
 
@@ -102,3 +102,59 @@ module _ {A B : Type 0} (f : A → List B) where
   each-mem (x ∷ xs) {a} {b} m h =
       ⊎-elim (λ (q : a ≡ x). Memᴰ·append-left (each xs f) (subst (λ (y : A). List·Memᴰ b (f y)) q h))
       (λ m′. Memᴰ·append-right (f x) (each-mem xs m′ h)) (List·Memᴰ·cases-cons m)
+
+-- one number more stands at the end
+pub upFrom-last : (a n : ℕ) → upFrom a (suc n) ≡ upFrom a n ++ ((a + n) ∷ [])
+upFrom-last a zero = let e : a + 0 ≡ a = omega arith in rw e
+upFrom-last a (suc n) = let e : a + suc n ≡ suc a + n = omega arith in rw e (ap (λ (l : List ℕ). a ∷ l) (upFrom-last (suc a) n))
+
+-- ---- the first number that passes
+
+module _ (f : ℕ → Bool) where
+  -- the first number found is one of the list and passes
+  pub firstOf-found : (xs : List ℕ) → firstOf f xs ≢ 0 → List·Memᴰ (firstOf f xs) xs × T (f (firstOf f xs))
+  firstOf-found [] h = absurd (h refl)
+  firstOf-found (x ∷ xs) h = go (f x) (passes (f x)) (firstOf-found xs) h
+    where
+      Found : ℕ → List ℕ → Type 0
+      Found m ys = List·Memᴰ m ys × T (f m)
+
+      go : (b : Bool) → (b ≡ true → T (f x)) → (firstOf f xs ≢ 0 → Found (firstOf f xs) xs) → pick b x (firstOf f xs) ≢ 0 → Found (pick b x (firstOf f xs)) (x ∷ xs)
+      go true t rest h′ = (List·Memᴰ·head refl, t refl)
+      go false t rest h′ = (List·Memᴰ·tail (rest h′ .0), rest h′ .1)
+
+  -- where nothing is found, and no number is 0, none passes
+  pub firstOf-none : (xs : List ℕ) → ((k : ℕ) → List·Memᴰ k xs → 1 ≤ k) → firstOf f xs ≡ 0 → (k : ℕ) → List·Memᴰ k xs → T (f k) → ⊥
+  firstOf-none [] h e k m t = List·Memᴰ·not-nil m
+  firstOf-none (x ∷ xs) h e k m t =
+      ⊎-elim (λ (y : f x ≡ true). let z : x ≡ 0 = rw y at e in let l : 1 ≤ x = h x (List·Memᴰ·head refl) in omega arith)
+      (λ (n : f x ≡ false). let z : firstOf f xs ≡ 0 = rw n at e in
+      ⊎-elim (λ (q : k ≡ x). fails (f x) n (subst (λ (j : ℕ). T (f j)) q t)) (λ m′. firstOf-none xs (λ j i. h j (List·Memᴰ·tail i)) z k m′ t)
+      (List·Memᴰ·cases-cons m))
+      (decided (f x))
+
+  -- where none passes, nothing is found
+  pub none-firstOf : (xs : List ℕ) → ((k : ℕ) → List·Memᴰ k xs → T (f k) → ⊥) → firstOf f xs ≡ 0
+  none-firstOf [] h = refl
+  none-firstOf (x ∷ xs) h =
+      let n : f x ≡ false = is-false (f x) (h x (List·Memᴰ·head refl)) in
+      rw n (none-firstOf xs (λ k m. h k (List·Memᴰ·tail m)))
+
+  -- the first of two lists has precedence
+  pub firstOf-append : (xs ys : List ℕ) → ((k : ℕ) → List·Memᴰ k xs → 1 ≤ k) → firstOf f (xs ++ ys) ≡ pick (eqb (firstOf f xs) 0) (firstOf f ys) (firstOf f xs)
+  firstOf-append [] ys h = refl
+  firstOf-append (x ∷ xs) ys h =
+      ⊎-elim
+      (λ (y : f x ≡ true).
+      let n : eqb x 0 ≡ false = ne-eqb x 0 (let l : 1 ≤ x = h x (List·Memᴰ·head refl) in omega arith) in
+      rw (y, n))
+      (λ (n : f x ≡ false). rw n (firstOf-append xs ys (λ k m. h k (List·Memᴰ·tail m))))
+      (decided (f x))
+
+-- tests that agree on a list find the same
+pub firstOf-agree : (f g : ℕ → Bool) (xs : List ℕ) → ((k : ℕ) → List·Memᴰ k xs → f k ≡ g k) → firstOf f xs ≡ firstOf g xs
+firstOf-agree f g [] h = refl
+firstOf-agree f g (x ∷ xs) h =
+    let e : f x ≡ g x = h x (List·Memᴰ·head refl) in
+    let t : firstOf f xs ≡ firstOf g xs = firstOf-agree f g xs (λ k m. h k (List·Memᴰ·tail m)) in
+    rw (e, t)

@@ -1,0 +1,3 @@
+pub mod PairCount
+pub mod OnceEnded
+pub mod EndedLengths

@@ -1,0 +1,1 @@
+// Abelian periods of a word by its prefix counts.
