@@ -1,0 +1,59 @@
+-- Laws of two vectors, place by place: none above, the same, and the difference.
+use mathlib.Core.Path.{_≡_, refl, sym, ap, _∙_}
+use mathlib.Core.Bool.{Bool, true, false, _&&_, and-assoc, and-true, and-false}
+use mathlib.Core.Logic.{_⊎_, inl, inr}
+use mathlib.Core.List.{List, [], _∷_}
+use Prim.Native.Nat.{ℕ, zero, suc, _+_, _-_, _≤_, _<_}
+use native.Mathlib.Omega.{arith}
+use lib.ListN.{length, take, getD}
+use lib.Dec.{T, leb, eqb, leb→le}
+use borrow.Author.Tests.{ne-eqb}
+use Rattle.abelian.specs.Lists.{same}
+use Rattle.abelian.specs.Words.{noneAbove}
+use Rattle.abelian.proofs.Tests.{left, right}
+use Rattle.words.specs.Differences.{minus}
+
+-- a test that goes through two lists place by place: over one place more it is the test so far and that at the place
+module _ (test : ℕ → ℕ → Bool) (through : List ℕ → List ℕ → Bool) (none : through [] [] ≡ true)
+  (cons : (a b : ℕ) (u v : List ℕ) → through (a ∷ u) (b ∷ v) ≡ (test a b && through u v)) where
+  more : (u v : List ℕ) (j : ℕ) → j < length u → j < length v → through (take (suc j) u) (take (suc j) v) ≡ (through (take j u) (take j v) && test (getD u j 0) (getD v j 0))
+  more [] v j l m = absurd (omega arith)
+  more (a ∷ u) [] j l m = absurd (omega arith)
+  more (a ∷ u) (b ∷ v) zero l m = rw (cons a b [] [], none) (and-true (test a b))
+  more (a ∷ u) (b ∷ v) (suc j) l m =
+      rw (cons, cons, more u v j (omega arith) (omega arith)) (sym (and-assoc (test a b) (through (take j u) (take j v)) (test (getD u j 0) (getD v j 0))))
+
+pub noneAbove-more : (u v : List ℕ) (j : ℕ) → j < length u → j < length v → noneAbove (take (suc j) u) (take (suc j) v) ≡ (noneAbove (take j u) (take j v) && leb (getD u j 0) (getD v j 0))
+unfolding noneAbove
+noneAbove-more = more leb noneAbove refl (λ a b u v. refl)
+
+pub same-more : (u v : List ℕ) (j : ℕ) → j < length u → j < length v → same (take (suc j) u) (take (suc j) v) ≡ (same (take j u) (take j v) && eqb (getD u j 0) (getD v j 0))
+same-more = more eqb same refl (λ a b u v. refl)
+
+-- where no count is above, that at each place is not
+pub noneAbove-at : (u v : List ℕ) → T (noneAbove u v) → (j : ℕ) → j < length u → getD u j 0 ≤ getD v j 0
+unfolding noneAbove
+noneAbove-at [] v t j l = absurd (omega arith)
+noneAbove-at (a ∷ u) [] t j l = absurd t
+noneAbove-at (a ∷ u) (b ∷ v) t zero l = leb→le a b (left (leb a b) (noneAbove u v) t)
+noneAbove-at (a ∷ u) (b ∷ v) t (suc j) l = noneAbove-at u v (right (leb a b) (noneAbove u v) t) j (omega arith)
+
+-- the difference at a place
+pub minus-at : (u v : List ℕ) (j : ℕ) → length u ≡ length v → getD (minus u v) j 0 ≡ getD u j 0 - getD v j 0
+unfolding minus
+minus-at [] [] j e = refl
+minus-at [] (b ∷ v) j e = absurd (omega arith)
+minus-at (a ∷ u) [] j e = absurd (omega arith)
+minus-at (a ∷ u) (b ∷ v) zero e = refl
+minus-at (a ∷ u) (b ∷ v) (suc j) e = minus-at u v j (omega arith)
+
+pub length-minus : (u v : List ℕ) → length u ≡ length v → length (minus u v) ≡ length u
+unfolding minus
+length-minus [] v e = refl
+length-minus (a ∷ u) [] e = absurd (omega arith)
+length-minus (a ∷ u) (b ∷ v) e = ap suc (length-minus u v (omega arith))
+
+-- a count of the places at which a test fails is 0 exactly where it passes at all of them: one place more
+pub fails-more : (found found′ : ℕ) (passed at : Bool) → eqb found 0 ≡ passed → ((at ≡ false) × (found′ ≡ found + 1)) ⊎ ((at ≡ true) × (found′ ≡ found)) → eqb found′ 0 ≡ (passed && at)
+fails-more found found′ passed at e (inl w) = rw (w .0, w .1, and-false) (ne-eqb (found + 1) 0 (omega arith))
+fails-more found found′ passed at e (inr w) = rw (w .0, w .1, and-true) e

@@ -1,0 +1,84 @@
+// Words: the check of a word, the counts of its letters, and the table of the counts of its prefixes. A word, and any part of one, is
+// a slice of bytes.
+pub mod parts;
+
+use abelian::FIRST_LETTER;
+use abelian::LETTERS;
+use abelian::LONGEST;
+use abelian::Outcome;
+use abelian::Refusal;
+ghost use mathlib.Core.Path.{_≡_};
+ghost use mathlib.Core.Bool.{false};
+ghost use Prim.Native.Nat.{_≤_};
+ghost use lib.Dec.{T};
+ghost use lib.ListN.{length};
+ghost use Rattle.abelian.specs.Words.{alphabetSize, longest, isLetter, ofLetters, vector};
+ghost use Rattle.abelian.specs.Refusals.{wordRefusal};
+ghost use Rattle.abelian.specs.Answers.{outcomeOf};
+ghost use Rattle.words.specs.Prefixes.{prefixCounts};
+
+// The rows of the table of prefix counts: one for each length of a prefix, 0 to the longest word.
+pub const ROWS: usize = LONGEST + 1;
+
+// Whether the byte is a letter.
+pub fn is_letter(byte: u8) -> bool
+    ensures { λ r. ⌜ r ≡ isLetter alphabetSize byte ⌝ }
+{
+    FIRST_LETTER <= byte && (byte as usize) < (FIRST_LETTER as usize) + LETTERS
+}
+
+// Whether a call may take the word: not if it is above the longest, and not if it holds a byte that is no letter, of which the first
+// position is answered, counted from 1.
+pub fn check_word(word: &[u8]) -> Outcome
+    ensures { λ r. ⌜ r ≡ outcomeOf (wordRefusal (now (word .entry)) false 0 0) ⌝ }
+{
+    if word.len() > LONGEST {
+        return Outcome::Refused(Refusal::TooLong);
+    }
+    let mut i = 0;
+    while i < word.len() {
+        if !is_letter(word[i]) {
+            let position = i + 1;
+            return Outcome::Refused(Refusal::NotALetter(position));
+        }
+        i += 1;
+    }
+    Outcome::Accepted
+}
+
+// How often each letter stands in the part, in letter order. A part of a word is short enough that each count fits a byte.
+pub fn count_letters(part: &[u8]) -> [u8; LETTERS]
+    requires { ⌜ T (ofLetters (now part)) ⌝ }
+    requires { ⌜ length (now part) ≤ longest ⌝ }
+    ensures { λ r. ⌜ r ≡ vector (now (part .entry)) ⌝ }
+{
+    let mut counts = [0u8; LETTERS];
+    let mut i = 0;
+    while i < part.len() {
+        let place = (part[i] - FIRST_LETTER) as usize;
+        counts[place] += 1;
+        i += 1;
+    }
+    counts
+}
+
+// The counts of the letters in each prefix of the word: row i has those of the first i letters, and the rows behind the word's end
+// repeat those of the whole word. Each letter is read once, since a row is the one before it with one count more.
+pub fn prefix_counts(word: &[u8]) -> [[u8; LETTERS]; ROWS]
+    requires { ⌜ T (ofLetters (now word)) ⌝ }
+    requires { ⌜ length (now word) ≤ longest ⌝ }
+    ensures { λ r. ⌜ r ≡ prefixCounts (now (word .entry)) ⌝ }
+{
+    let mut table = [[0u8; LETTERS]; ROWS];
+    let mut row = [0u8; LETTERS];
+    let mut i = 0;
+    while i < LONGEST {
+        if i < word.len() {
+            let place = (word[i] - FIRST_LETTER) as usize;
+            row[place] += 1;
+        }
+        table[i + 1] = row;
+        i += 1;
+    }
+    table
+}
