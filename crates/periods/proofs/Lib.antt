@@ -1,3 +1,4 @@
 pub mod PairCount
 pub mod OnceEnded
+pub mod Kernel
 pub mod EndedLengths

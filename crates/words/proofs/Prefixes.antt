@@ -12,7 +12,7 @@ use Rattle.abelian.specs.Words.{alphabetSize, firstLetter, longest, count, vect
 use Rattle.abelian.proofs.Lists.{length-upFrom}
 use Rattle.abelian.proofs.Counts.{count-part, count-take-rises, counts-noneAbove}
 use Rattle.words.specs.Differences.{minus}
-use Rattle.words.specs.Prefixes.{prefixCounts}
+use Rattle.words.specs.Prefixes.{prefixCounts, Counted}
 use Rattle.words.proofs.Pairwise.{minus-at, length-minus}
 use Rattle.words.proofs.Vectors.{map-upFrom-at, vector-at, entry-le, length-vector, counts-are-vector}
 
@@ -85,3 +85,11 @@ module _ (w : List ℕ) where
       (length-minus (vector (take (a + size) w)) (vector (take a w)) e ∙ length-vector (take (a + size) w))
       (λ j m. minus-at (vector (take (a + size) w)) (vector (take a w)) j e
       ∙ omega (arith, vector-at (take (a + size) w) j m, vector-at (take a w) j m, count-part (firstLetter + j) a size w)))
+
+-- the same of a table that is known to hold an accepted word's prefix counts, for parts of the word
+module _ (w : List ℕ) (table : List (List ℕ)) (c : Counted w table) where
+  pub counted-rises : {a b : ℕ} → a ≤ b → b ≤ length w → T (noneAbove (getD table a []) (getD table b []))
+  counted-rises l u = rw (c .rows) (rows-rise w l (omega (arith, c .short)))
+
+  pub counted-part : (a size : ℕ) → a + size ≤ length w → minus (getD table (a + size) []) (getD table a []) ≡ vector (part w a size)
+  counted-part a size l = rw (c .rows) (rows-part w a size (omega (arith, c .short)))

@@ -1,10 +1,18 @@
 -- The table of prefix counts.
-use Prim.Native.Nat.{ℕ, suc}
+use Prim.Native.Nat.{ℕ, suc, _≤_}
+use mathlib.Core.Path.{_≡_}
 use mathlib.Core.List.{List, map}
-use lib.ListN.{take}
+use lib.ListN.{length, take}
+use lib.Dec.{T}
 use Rattle.abelian.specs.Lists.{upFrom}
-use Rattle.abelian.specs.Words.{longest, vector}
+use Rattle.abelian.specs.Words.{longest, ofLetters, vector}
 
 -- Row i, from 0 to 240, is the count vector of the word's first i letters; behind the word's end that of the whole word.
 unfoldable pub prefixCounts : List ℕ → List (List ℕ)
 prefixCounts w = map (λ (i : ℕ). vector (take i w)) (upFrom 0 (suc longest))
+
+-- An accepted word, with the table of its prefix counts.
+pub record Counted (w : List ℕ) (table : List (List ℕ)) : Type 0 where
+  pub all : T (ofLetters w)
+  pub short : length w ≤ longest
+  pub rows : table ≡ prefixCounts w
