@@ -36,6 +36,12 @@ count-take-rises c {i} {j} w h =
     let s′ : count c (take j w) ≡ count c (take i w) + count c (part w i (j - i)) = rw e at s in
     omega arith
 
+-- one letter more
+pub count-take-more : (c i : ℕ) (w : List ℕ) → i < length w → count c (take (suc i) w) ≡ count c (take i w) + one (eqb (getD w i 0) c)
+unfolding count
+count-take-more c i w l =
+    ap (count c) (take-suc w i 0 l) ∙ count-append c (take i w) (getD w i 0 ∷ []) ∙ omega arith
+
 -- a count is at most the length
 pub count-le-length : (c : ℕ) (w : List ℕ) → count c w ≤ length w
 unfolding count

@@ -2,7 +2,7 @@
 use mathlib.Core.Path.{_≡_, refl, sym, ap, subst, _∙_}
 use mathlib.Core.Logic.{_⊎_, inl, inr, ⊎-elim, _≢_}
 use mathlib.Core.Bool.{Bool, true, false, _&&_}
-use mathlib.Core.List.{List, [], _∷_, _++_, map, List·Memᴰ, List·Memᴰ·head, List·Memᴰ·tail, List·Memᴰ·cases-cons, List·Memᴰ·append-cases, Memᴰ·append-left, Memᴰ·append-right, List·Memᴰ·not-nil, Memᴰ·cast}
+use mathlib.Core.List.{List, [], _∷_, _++_, map, append-assoc, append-nil, List·Memᴰ, List·Memᴰ·head, List·Memᴰ·tail, List·Memᴰ·cases-cons, List·Memᴰ·append-cases, Memᴰ·append-left, Memᴰ·append-right, List·Memᴰ·not-nil, Memᴰ·cast}
 use Prim.Native.Nat.{ℕ, zero, suc, _+_, _*_, _≤_, _<_}
 use native.Mathlib.Nat.{not-suc-le-zero}
 use native.Mathlib.Omega.{arith}
@@ -107,6 +107,24 @@ module _ {A B : Type 0} (f : A → List B) where
 pub upFrom-last : (a n : ℕ) → upFrom a (suc n) ≡ upFrom a n ++ ((a + n) ∷ [])
 upFrom-last a zero = let e : a + 0 ≡ a = omega arith in rw e
 upFrom-last a (suc n) = let e : a + suc n ≡ suc a + n = omega arith in rw e (ap (λ (l : List ℕ). a ∷ l) (upFrom-last (suc a) n))
+
+-- ---- one behind the other
+
+pub keep-append : {A : Type 0} (f : A → Bool) (xs ys : List A) → keep f (xs ++ ys) ≡ keep f xs ++ keep f ys
+keep-append f [] ys = refl
+keep-append f (x ∷ xs) ys = go (f x) (keep-append f xs ys)
+  where
+    go : (b : Bool) → keep f (xs ++ ys) ≡ keep f xs ++ keep f ys → put b x (keep f (xs ++ ys)) ≡ put b x (keep f xs) ++ keep f ys
+    go true e = ap (λ l. x ∷ l) e
+    go false e = e
+
+pub each-append : {A B : Type 0} (f : A → List B) (xs ys : List A) → each (xs ++ ys) f ≡ each xs f ++ each ys f
+each-append f [] ys = refl
+each-append f (x ∷ xs) ys = ap (λ l. f x ++ l) (each-append f xs ys) ∙ sym (append-assoc (f x) (each xs f) (each ys f))
+
+-- of the numbers from a on, one more: its list stands at the end
+pub each-last : {B : Type 0} (f : ℕ → List B) (a n : ℕ) → each (upFrom a (suc n)) f ≡ each (upFrom a n) f ++ f (a + n)
+each-last f a n = ap (λ l. each l f) (upFrom-last a n) ∙ each-append f (upFrom a n) ((a + n) ∷ []) ∙ ap (λ l. each (upFrom a n) f ++ l) (append-nil (f (a + n)))
 
 -- ---- the first number that passes
 

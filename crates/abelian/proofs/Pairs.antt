@@ -111,3 +111,31 @@ rising-rows n a (suc m) l =
 pub pairs-rising : (n : ℕ) → Rising (pairs n)
 unfolding pairs
 pairs-rising n = rising-rows n 1 n (omega arith)
+
+-- no pair stands before one that stands before it
+before-asym : (x y : Pair) → Before x y → Before y x → ⊥
+before-asym x y (inl l) (inl m) = omega arith
+before-asym x y (inl l) (inr q) = let e : y .period ≡ x .period = q .0 in omega arith
+before-asym x y (inr q) (inl m) = let e : x .period ≡ y .period = q .0 in omega arith
+before-asym x y (inr p) (inr q) = let l : x .head < y .head = p .1 in let m : y .head < x .head = q .1 in omega arith
+
+-- two rising lists with the same pairs are equal
+pub rising-equal : (xs ys : List Pair) → Rising xs → Rising ys → ((z : Pair) → List·Memᴰ z xs → List·Memᴰ z ys) → ((z : Pair) → List·Memᴰ z ys → List·Memᴰ z xs) → xs ≡ ys
+rising-equal [] [] r s f g = refl
+rising-equal [] (y ∷ ys) r s f g = absurd (List·Memᴰ·not-nil (g y (List·Memᴰ·head refl)))
+rising-equal (x ∷ xs) [] r s f g = absurd (List·Memᴰ·not-nil (f x (List·Memᴰ·head refl)))
+rising-equal (x ∷ xs) (y ∷ ys) r s f g =
+    let e : x ≡ y =
+        ⊎-elim (λ (q : x ≡ y). q)
+        (λ (m : List·Memᴰ x ys).
+        ⊎-elim (λ (q : y ≡ x). sym q) (λ (k : List·Memᴰ y xs). absurd (before-asym x y (r .0 y k) (s .0 x m)))
+        (List·Memᴰ·cases-cons (g y (List·Memᴰ·head refl))))
+        (List·Memᴰ·cases-cons (f x (List·Memᴰ·head refl))) in
+    let t : xs ≡ ys =
+        rising-equal xs ys (r .1) (s .1)
+        (λ z m. ⊎-elim (λ (q : z ≡ y). absurd (irrefl x (subst (λ (a : Pair). Before x a) (q ∙ sym e) (r .0 z m)))) (λ k. k) (List·Memᴰ·cases-cons (f z (List·Memᴰ·tail m))))
+        (λ z m. ⊎-elim (λ (q : z ≡ x). absurd (irrefl y (subst (λ (a : Pair). Before y a) (q ∙ e) (s .0 z m)))) (λ k. k) (List·Memᴰ·cases-cons (g z (List·Memᴰ·tail m)))) in
+    cc
+  where
+    irrefl : (a : Pair) → Before a a → ⊥
+    irrefl a b = before-asym a a b b

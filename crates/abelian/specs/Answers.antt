@@ -17,7 +17,7 @@ use Rattle.abelian.specs.declared.Covered.the-variants as covered
 use Rattle.abelian.specs.declared.Outcome.{Outcome}
 use Rattle.abelian.specs.declared.Outcome.the-variants as outcome
 
--- The numbers of an answer. A number that a call's answer has no room for, or that is not named, is 0; number 0 is acceptance.
+-- The numbers of an answer; `yes` is 1 where the judge says yes and where a cover is found. A number that a call's answer has no room for, or that is not named, is 0; number 0 is acceptance.
 pub record Answer : Type 0 where
   pub number : ℕ
   pub value : ℕ
@@ -25,6 +25,7 @@ pub record Answer : Type 0 where
   pub trials : ℕ
   pub s : ℕ
   pub t : ℕ
+  pub yes : ℕ
   pub block : ℕ
   pub letter : ℕ
   pub cover : ℕ
@@ -33,24 +34,21 @@ pub record Answer : Type 0 where
 -- refused: the number and the value, and the slice
 abbrev pub refusing : Refusal → List ℕ → Answer
 refusing r out =
-    record { number = numberOf r; value = valueOf r; written = 0; trials = 0; s = 0; t = 0; block = 0; letter = 0; cover = 0; output = out }
+    record { number = numberOf r; value = valueOf r; written = 0; trials = 0; s = 0; t = 0; yes = 0; block = 0; letter = 0; cover = 0; output = out }
 
 -- accepted, with the numbers of a list, and the slice
 abbrev pub writing : ℕ → ℕ → ℕ → ℕ → List ℕ → Answer
 writing words tried s t out =
-    record { number = 0; value = 0; written = words; trials = tried; s = s; t = t; block = 0; letter = 0; cover = 0; output = out }
+    record { number = 0; value = 0; written = words; trials = tried; s = s; t = t; yes = 0; block = 0; letter = 0; cover = 0; output = out }
 
--- accepted, with the judge's block and letter: both 0 for yes
-abbrev pub failing : ℕ → ℕ → Answer
-failing k c = record { number = 0; value = 0; written = 0; trials = 0; s = 0; t = 0; block = k; letter = c; cover = 0; output = [] }
-
--- accepted, with a cover's length: 0 for none
-abbrev pub covering : ℕ → Answer
-covering m = record { number = 0; value = 0; written = 0; trials = 0; s = 0; t = 0; block = 0; letter = 0; cover = m; output = [] }
+-- accepted, with what the judge and the search for a cover say: yes or no, block and letter, the cover's length
+abbrev pub deciding : ℕ → ℕ → ℕ → ℕ → Answer
+deciding says k c m =
+    record { number = 0; value = 0; written = 0; trials = 0; s = 0; t = 0; yes = says; block = k; letter = c; cover = m; output = [] }
 
 -- accepted, with nothing more to say
 abbrev pub accepting : Answer
-accepting = record { number = 0; value = 0; written = 0; trials = 0; s = 0; t = 0; block = 0; letter = 0; cover = 0; output = [] }
+accepting = deciding 0 0 0 0
 
 -- the refusal, if there is one, with the slice as it came, and else the accepted answer
 abbrev pub unless : Option Refusal → List ℕ → Answer → Answer
@@ -58,8 +56,8 @@ unless none out a = a
 unless (some r) out a = refusing r out
 
 abbrev pub answeredVerdict : Verdict → Answer
-answeredVerdict verdict.Yes = failing 0 0
-answeredVerdict (verdict.No k c) = failing k c
+answeredVerdict verdict.Yes = deciding 1 0 0 0
+answeredVerdict (verdict.No k c) = deciding 0 k c 0
 answeredVerdict (verdict.Refused r) = refusing r []
 
 abbrev pub answeredListed : Listed → List ℕ → Answer
@@ -75,11 +73,11 @@ answeredWrote (wrote.Words words) out = writing words 0 0 0 out
 answeredWrote (wrote.Refused r) out = refusing r out
 
 abbrev pub answeredCovered : Covered → Answer
-answeredCovered (covered.Length m) = covering m
-answeredCovered covered.Nothing = covering 0
+answeredCovered (covered.Length m) = deciding 1 0 0 m
+answeredCovered covered.Nothing = deciding 0 0 0 0
 answeredCovered (covered.Refused r) = refusing r []
 
--- the refusal, if there is one, as a call that has nothing else to say answers it
+-- the refusal, if there is one, and else acceptance, as a call that has nothing more to say answers
 abbrev pub outcomeOf : Option Refusal → Outcome
 outcomeOf none = outcome.Accepted
 outcomeOf (some r) = outcome.Refused r

@@ -3,8 +3,8 @@ use Prim.Native.Nat.{ℕ}
 use mathlib.Core.Bool.{false, not}
 use mathlib.Core.List.{List, [], _∷_, _++_, map}
 use lib.ListN.{length}
-use lib.Dec.{ltb}
-use Rattle.abelian.specs.Lists.{one}
+use lib.Dec.{eqb, ltb}
+use Rattle.abelian.specs.Lists.{pick, one}
 use Rattle.abelian.specs.Periods.{Pair, inRange, periods}
 use Rattle.abelian.specs.Output.{periodWord, fullWord, reportHead, fill}
 use Rattle.abelian.specs.Trials.{plainTrials, skippingTrials}
@@ -13,16 +13,16 @@ use Rattle.abelian.specs.Judge.{Failure, failures}
 use Rattle.abelian.specs.Squares.{squareWords}
 use Rattle.abelian.specs.Covers.{coverLength}
 use Rattle.abelian.specs.Refusals.{wordRefusal}
-use Rattle.abelian.specs.Answers.{Answer, writing, failing, covering, unless}
+use Rattle.abelian.specs.Answers.{Answer, writing, deciding, unless}
 
 -- yes, or the first failure
-unfoldable pub verdictOf : List Failure → Answer
-verdictOf [] = failing 0 0
-verdictOf (f ∷ fs) = failing (f .block) (f .letter)
+unfoldable pub firstFailure : List Failure → Answer
+firstFailure [] = deciding 1 0 0 0
+firstFailure (f ∷ fs) = deciding 0 (f .block) (f .letter) 0
 
 -- "Judge": refusals 1, 2, 7, else the verdict.
 unfoldable pub judging : List ℕ → Pair → Answer
-judging w x = unless (wordRefusal w (not (inRange (length w) x)) 0 0) [] (verdictOf (failures w x))
+judging w x = unless (wordRefusal w (not (inRange (length w) x)) 0 0) [] (firstFailure (failures w x))
 
 -- A list call: refusals 1, 2, 3, else the words in the first places, their number, and the numbers that belong to the call.
 unfoldable pub listing : List ℕ → List ℕ → List ℕ → ℕ → ℕ → ℕ → Answer
@@ -55,9 +55,13 @@ scaledListing w out = listing w out (fullWords w) 0 (scale w) (scaledGap w)
 unfoldable pub squareListing : List ℕ → List ℕ → Answer
 squareListing w out = listing w out (squareWords w) 0 0 0
 
+-- none, where the cover length is 0, or the length
+unfoldable pub noneOrLength : ℕ → Answer
+noneOrLength m = pick (eqb m 0) (deciding 0 0 0 0) (deciding 1 0 0 m)
+
 -- "Cover": refusals 1, 2, else a length or none.
 unfoldable pub coverAnswer : List ℕ → Answer
-coverAnswer w = unless (wordRefusal w false 0 0) [] (covering (coverLength w))
+coverAnswer w = unless (wordRefusal w false 0 0) [] (noneOrLength (coverLength w))
 
 -- "Report": one word of kind 8, then full periods, periods, squares.
 unfoldable pub reportWords : List ℕ → List ℕ

@@ -8,7 +8,7 @@ use lib.Dec.{leb}
 use Rattle.abelian.specs.Lists.{upFrom, firstOf, same}
 use Rattle.abelian.specs.Words.{vector, part}
 
--- An interval of positions, both ends counted from 1.
+-- An interval of positions, counted from 1, that has both its ends.
 pub record Interval : Type 0 where
   pub from : ℕ
   pub to : ℕ
@@ -29,7 +29,7 @@ pub record Holds (i : Interval) (k : ℕ) : Type 0 where
   pub above : i .from ≤ k
   pub below : k ≤ i .to
 
--- "Cover": one or more intervals, none the whole word, with equal vectors, that together hold every position; n ≥ 2.
+-- "Cover", of a word of letters: one or more intervals, none the whole word, with equal vectors, that together hold every position; n ≥ 2.
 pub record Cover (w : List ℕ) (intervals : List Interval) : Type 0 where
   pub long : 2 ≤ length w
   pub some : 1 ≤ length intervals
@@ -37,7 +37,7 @@ pub record Cover (w : List ℕ) (intervals : List Interval) : Type 0 where
   pub equal : (i j : Interval) → List·Memᴰ i intervals → List·Memᴰ j intervals → vector (within w i) ≡ vector (within w j)
   pub holding : (k : ℕ) → 1 ≤ k → k ≤ length w → (i : Interval) × List·Memᴰ i intervals × Holds i k
 
--- m is at least half the length, and the first m and the last m letters have equal vectors
+-- m is at least half the length, and the first m and the last m letters have equal vectors; where m < n, they are a cover
 unfoldable pub isCoverLength : List ℕ → ℕ → Bool
 isCoverLength w m = leb (length w) (2 * m) && same (vector (take m w)) (vector (drop (length w - m) w))
 

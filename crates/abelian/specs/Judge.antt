@@ -13,9 +13,9 @@ pub record Failure : Type 0 where
   pub block : ℕ
   pub letter : ℕ
 
--- Block number k: 0 is the head, 1 the first whole block, and so on to the tail, which is behind the last whole one.
-unfoldable pub blockNumber : List ℕ → Pair → ℕ → List ℕ
-blockNumber w x k = pick (eqb k 0) (headOf w x) (pick (leb k (wholeBlocks (length w) x)) (block w x k) (tailOf w x))
+-- The letters of block number k: 0 is the head, 1 the first whole block, and so on to the tail, which is behind the last whole one.
+unfoldable pub blockAt : List ℕ → Pair → ℕ → List ℕ
+blockAt w x k = pick (eqb k 0) (headOf w x) (pick (leb k (wholeBlocks (length w) x)) (block w x k) (tailOf w x))
 
 -- block number k is the head or the tail
 unfoldable pub isEnd : List ℕ → Pair → ℕ → Bool
@@ -25,8 +25,8 @@ isEnd w x k = eqb k 0 || ltb (wholeBlocks (length w) x) k
 unfoldable pub breaks : List ℕ → Pair → ℕ → ℕ → Bool
 breaks w x k c =
     pick (isEnd w x k)
-    (ltb (count c (block w x 1)) (count c (blockNumber w x k)))
-    (not (eqb (count c (blockNumber w x k)) (count c (block w x 1))))
+    (ltb (count c (block w x 1)) (count c (blockAt w x k)))
+    (not (eqb (count c (blockAt w x k)) (count c (block w x 1))))
 
 -- All failures, block by block and in each by letter order.
 unfoldable pub failures : List ℕ → Pair → List Failure

@@ -1,11 +1,12 @@
--- The marked words: document 01's P1 to P11 and more rows, one table and one test. Each row is tried by the definitions alone.
-use Prim.Native.Nat.{ℕ, _+_}
+-- The marked words: document 01's P1 to P11, and more rows for clauses that these leave untried. Each row is tried by the definitions
+-- alone.
+use Prim.Native.Nat.{ℕ, suc, _+_, _-_}
 use mathlib.Core.Bool.{Bool, true, false, _&&_, _||_}
-use mathlib.Core.List.{List, [], _∷_, _++_, map}
-use lib.ListN.{length, drop, replicate}
+use mathlib.Core.List.{List, [], _∷_, map}
+use lib.ListN.{length, take, replicate}
 use lib.Dec.{eqb}
 use Rattle.abelian.specs.Lists.{pick, same, all, largest}
-use Rattle.abelian.specs.Words.{longest}
+use Rattle.abelian.specs.Words.{alphabetSize, firstLetter, longest}
 use Rattle.abelian.specs.Periods.{Pair, pair, pairs}
 use Rattle.abelian.specs.Output.{periodWord, squareWord}
 use Rattle.abelian.specs.Trials.{plainTrials, skippingTrials}
@@ -13,12 +14,12 @@ use Rattle.abelian.specs.FullPeriods.{fullPeriods, scale, scaledGap}
 use Rattle.abelian.specs.EndedLengths.{endedLength}
 use Rattle.abelian.specs.Squares.{squareWords}
 use Rattle.abelian.specs.Covers.{coverLength}
-use Rattle.abelian.specs.Answers.{Answer}
-use Rattle.abelian.specs.Calls.{judging, periodWords, reportWords, plainListing, coverAnswer}
+use Rattle.abelian.specs.Answers.{Answer, writing, deciding}
+use Rattle.abelian.specs.Calls.{judging, periodWords, reportWords, plainListing, skippingListing, scaledListing, coverAnswer}
 use Rattle.abelian.specs.Trackers.{entries, freshTracker, adding, takingBack, clearing, trackerListing}
 use Rattle.abelian.specs.declared.Tracker.{Tracker}
 
--- A row: a word or a tracker, and what document 01 says of it.
+-- A row: a word, an answer or a tracker, and what document 01 says of it.
 pub data Row : Type 0 where
   -- the Abelian periods, in order
   periodsAre : List ℕ → List Pair → Row
@@ -34,14 +35,20 @@ pub data Row : Type 0 where
   trialsAre : List ℕ → ℕ → ℕ → Row
   -- a pair's ended length
   endsAt : List ℕ → Pair → ℕ → Row
-  -- the judge's block and letter; 0 and 0 for yes
-  judged : List ℕ → Pair → ℕ → ℕ → Row
+  -- the judge says yes
+  judgedYes : List ℕ → Pair → Row
+  -- the judge's block and letter
+  judgedNo : List ℕ → Pair → ℕ → ℕ → Row
   -- the report's words
   reportIs : List ℕ → List ℕ → Row
-  -- the number and value that a call answers, and the slice afterwards
-  answers : Answer → ℕ → ℕ → List ℕ → Row
-  -- a tracker's length, the entry of a pair, and its list
-  tracks : Tracker → ℕ → Pair → ℕ → List Pair → Row
+  -- the number and value of a refusal, all other numbers being 0, and the slice afterwards
+  refuses : Answer → ℕ → ℕ → List ℕ → Row
+  -- an accepted answer's words written, trials, s and T, and the slice afterwards
+  writes : Answer → ℕ → ℕ → ℕ → ℕ → List ℕ → Row
+  -- a tracker's first bytes, one for each of its letters and one behind them; the entry of a pair; its list
+  tracks : Tracker → List ℕ → Pair → ℕ → List Pair → Row
+  -- a tracker's board
+  boardIs : Tracker → List ℕ → Row
 
 -- the entry of a pair on a board
 unfoldable pub entryOf : Pair → List ℕ → ℕ
@@ -52,24 +59,38 @@ unfoldable pub isOneOf : ℕ → List ℕ → Bool
 isOneOf m [] = eqb m 0
 isOneOf m (x ∷ xs) = eqb m x || pick (eqb m 0) false (isOneOf m xs)
 
--- an answer's number, value and slice
-unfoldable pub saysOf : Answer → ℕ → ℕ → List ℕ → Bool
-saysOf a number value out = eqb (a .number) number && eqb (a .value) value && same (a .output) out
+-- all numbers of an answer
+unfoldable pub numbers : Answer → List ℕ
+numbers a =
+    a .number ∷ a .value ∷ a .written ∷ a .trials ∷ a .s ∷ a .t ∷ a .yes ∷ a .block ∷ a .letter ∷ a .cover ∷ []
 
-unfoldable pub holds : Row → Bool
-holds (periodsAre w xs) = same (periodWords w) (map periodWord xs)
-holds (fullAre w ps) = same (fullPeriods w) ps
-holds (squaresAre w ws) = same (squareWords w) ws
-holds (coverIsOneOf w ms) = isOneOf (coverLength w) ms
-holds (scaledBy w s t) = eqb (scale w) s && eqb (scaledGap w) t
-holds (trialsAre w plain skipping) = eqb (plainTrials w) plain && eqb (skippingTrials w) skipping
-holds (endsAt w x m) = eqb (endedLength w x) m
-holds (judged w x k c) = eqb (judging w x .number) 0 && eqb (judging w x .block) k && eqb (judging w x .letter) c
-holds (reportIs w ws) = same (reportWords w) ws
-holds (answers a number value out) = saysOf a number value out
-holds (tracks t n x e xs) =
-    eqb (t .len) n && eqb (entryOf x (t .board)) e
-    && saysOf (trackerListing t (replicate 9 0) .answer) 0 0 (map periodWord xs ++ drop (length xs) (replicate 9 0))
+-- two answers are the same
+unfoldable pub sameAnswer : Answer → Answer → Bool
+sameAnswer a b = same (numbers a) (numbers b) && same (a .output) (b .output)
+
+-- the answer of a refusal with this number and value
+unfoldable pub refusal : ℕ → ℕ → List ℕ → Answer
+refusal number value out =
+    record { number = number; value = value; written = 0; trials = 0; s = 0; t = 0; yes = 0; block = 0; letter = 0; cover = 0; output = out }
+
+-- what document 01 says is so by the definitions
+unfoldable pub rowHolds : Row → Bool
+rowHolds (periodsAre w xs) = same (periodWords w) (map periodWord xs)
+rowHolds (fullAre w ps) = same (fullPeriods w) ps
+rowHolds (squaresAre w ws) = same (squareWords w) ws
+rowHolds (coverIsOneOf w ms) = isOneOf (coverLength w) ms
+rowHolds (scaledBy w s t) = eqb (scale w) s && eqb (scaledGap w) t
+rowHolds (trialsAre w plain skipping) = eqb (plainTrials w) plain && eqb (skippingTrials w) skipping
+rowHolds (endsAt w x m) = eqb (endedLength w x) m
+rowHolds (judgedYes w x) = sameAnswer (judging w x) (deciding 1 0 0 0)
+rowHolds (judgedNo w x k c) = sameAnswer (judging w x) (deciding 0 k c 0)
+rowHolds (reportIs w ws) = same (reportWords w) ws
+rowHolds (refuses a number value out) = sameAnswer a (refusal number value out)
+rowHolds (writes a written trials s t out) = sameAnswer a (writing written trials s t out)
+rowHolds (tracks t bytes x e xs) =
+    same (take (suc (t .len)) (t .bytes)) bytes && eqb (entryOf x (t .board)) e
+    && sameAnswer (trackerListing t (replicate (length xs) 0) .answer) (writing (length xs) 0 0 0 (map periodWord xs))
+rowHolds (boardIs t es) = same (t .board) es
 
 -- the letters of the words below
 abbrev a : ℕ
@@ -88,7 +109,18 @@ abaababa = a ∷ b ∷ a ∷ a ∷ b ∷ a ∷ b ∷ a ∷ []
 abbrev abb : List ℕ
 abb = a ∷ b ∷ b ∷ []
 
--- the tracker after a letter more, after a take-back
+-- the first byte behind the last letter, and one that is far from the letters
+abbrev beyond : ℕ
+beyond = firstLetter + alphabetSize
+
+abbrev B : ℕ
+B = 66
+
+-- a tracker with these fields, that no calls have made
+abbrev made : ℕ → List ℕ → List ℕ → Tracker
+made n bytes board = record { len = n; bytes = bytes; board = board }
+
+-- the tracker after one letter more, and after a take-back
 abbrev then : Tracker → ℕ → Tracker
 then t x = adding t x .tracker
 
@@ -104,7 +136,6 @@ unfoldable pub marked : List Row
 marked =
     -- P1, P2, P3, P4
     periodsAre [] []
-    ∷ scaledBy [] 0 0
     ∷ periodsAre (a ∷ []) (pair 0 1 ∷ [])
     ∷ periodsAre (a ∷ a ∷ []) (pair 0 1 ∷ pair 0 2 ∷ [])
     ∷ fullAre (a ∷ a ∷ []) (1 ∷ 2 ∷ [])
@@ -130,37 +161,56 @@ marked =
     ∷ endsAt abaababa (pair 0 4) 7
     ∷ endsAt abaababa (pair 1 3) 7
     -- P10
-    ∷ judged abaababa (pair 0 4) 2 a
+    ∷ judgedNo abaababa (pair 0 4) 2 a
     -- P11
-    ∷ tracks given 3 (pair 1 2) 3 (pair 0 2 ∷ pair 0 3 ∷ [])
-    ∷ tracks (back given) 2 (pair 1 2) 0 (pair 0 2 ∷ [])
+    ∷ tracks given (a ∷ b ∷ b ∷ 0 ∷ []) (pair 1 2) 3 (pair 0 2 ∷ pair 0 3 ∷ [])
+    ∷ tracks (back given) (a ∷ b ∷ 0 ∷ []) (pair 1 2) 0 (pair 0 2 ∷ [])
     ∷ []
 
--- The clauses that P1 to P11 leave untried.
+-- Clauses of the definitions that P1 to P11 leave untried.
 unfoldable pub more : List Row
 more =
+    -- the empty word's s and T; a T that is no smallest distance
+    scaledBy [] 0 0
+    ∷ scaledBy (a ∷ b ∷ a ∷ a ∷ b ∷ b ∷ []) 2 2
     -- trials that tell the ruled-out rule, the bound by occurrences and the bound by gaps apart
-    trialsAre abb 4 3
+    ∷ trialsAre abb 4 3
     ∷ trialsAre abba 6 4
     ∷ trialsAre (a ∷ b ∷ a ∷ []) 4 4
     ∷ trialsAre (a ∷ a ∷ b ∷ a ∷ []) 6 6
-    -- the judge's yes, its head, and a whole block that has less
-    ∷ judged abaababa (pair 1 2) 0 0
-    ∷ judged abb (pair 1 2) 0 a
-    -- the report
+    -- a pair that ends at its first length
+    ∷ endsAt abb (pair 1 2) 3
+    -- the judge's yes, a head and a tail that fail
+    ∷ judgedYes abaababa (pair 1 2)
+    ∷ judgedNo abb (pair 1 2) 0 a
+    ∷ judgedNo (a ∷ a ∷ b ∷ []) (pair 0 2) 2 b
+    -- the report, without and with a cover
     ∷ reportIs abb (2147532800 ∷ 805355521 ∷ 268468224 ∷ 268484608 ∷ 536887298 ∷ [])
-    -- the table of refusals, each with its example, and the slice as it came
-    ∷ answers (coverAnswer (replicate 241 a)) 1 0 []
-    ∷ answers (plainListing (a ∷ 66 ∷ 99 ∷ []) (5 ∷ [])) 2 2 (5 ∷ [])
-    ∷ answers (plainListing (a ∷ a ∷ []) (5 ∷ [])) 3 2 (5 ∷ [])
-    ∷ answers (judging (a ∷ a ∷ []) (pair 1 1)) 7 0 []
-    ∷ answers (takingBack freshTracker .answer) 5 0 []
-    ∷ answers (adding freshTracker 113 .answer) 2 1 []
-    ∷ answers (adding (record { len = 241; bytes = []; board = [] }) 113 .answer) 6 0 []
-    ∷ answers (adding (record { len = 240; bytes = replicate 240 a; board = [] }) a .answer) 4 0 []
-    ∷ answers (trackerListing given (5 ∷ []) .answer) 3 2 (5 ∷ [])
-    -- an accepted list keeps the places behind it
-    ∷ answers (plainListing (a ∷ a ∷ []) (5 ∷ 6 ∷ 7 ∷ [])) 0 0 (268451840 ∷ 268468224 ∷ 7 ∷ [])
-    -- clear accepts any tracker
-    ∷ tracks (clearing (record { len = 241; bytes = []; board = [] }) .tracker) 0 (pair 0 1) 0 []
+    ∷ reportIs (a ∷ a ∷ []) (2147516417 ∷ 805322754 ∷ 805339137 ∷ 268451840 ∷ 268468224 ∷ 536887297 ∷ [])
+    -- each answer's numbers; an accepted list keeps the places behind it
+    ∷ writes (plainListing abb (5 ∷ 6 ∷ 7 ∷ [])) 2 4 0 0 (268468224 ∷ 268484608 ∷ 7 ∷ [])
+    ∷ writes (skippingListing abb (5 ∷ 6 ∷ [])) 2 3 0 0 (268468224 ∷ 268484608 ∷ [])
+    ∷ writes (scaledListing abba (5 ∷ 6 ∷ 7 ∷ [])) 2 0 2 1 (805339138 ∷ 805371905 ∷ 7 ∷ [])
+    -- the table of refusals: each with its example, the slice as it came, and those that come before others
+    ∷ refuses (coverAnswer (replicate 241 a)) 1 0 []
+    ∷ refuses (coverAnswer (B ∷ replicate 240 a)) 1 0 []
+    ∷ refuses (plainListing (a ∷ B ∷ 99 ∷ []) (5 ∷ [])) 2 2 (5 ∷ [])
+    ∷ refuses (judging (a ∷ B ∷ []) (pair 1 1)) 2 2 []
+    ∷ refuses (plainListing (a ∷ a ∷ []) (5 ∷ [])) 3 2 (5 ∷ [])
+    ∷ refuses (judging (a ∷ a ∷ []) (pair 1 1)) 7 0 []
+    ∷ refuses (adding (made 240 (replicate 240 a) []) a .answer) 4 0 []
+    ∷ refuses (adding (made 240 (replicate 240 a) []) beyond .answer) 2 1 []
+    ∷ refuses (adding (made 241 [] []) beyond .answer) 6 0 []
+    ∷ refuses (takingBack (made 1 (B ∷ []) []) .answer) 6 0 []
+    ∷ refuses (takingBack freshTracker .answer) 5 0 []
+    ∷ refuses (trackerListing given (5 ∷ []) .answer) 3 2 (5 ∷ [])
+    -- the edges: the longest word, the first and the last letter, and the bytes beside them
+    ∷ coverIsOneOf (replicate 240 a) (120 ∷ [])
+    ∷ judgedYes ((beyond - 1) ∷ a ∷ []) (pair 0 2)
+    ∷ refuses (coverAnswer (96 ∷ [])) 2 1 []
+    ∷ refuses (coverAnswer (a ∷ beyond ∷ [])) 2 2 []
+    -- trackers that no calls have made: an add keeps entries above 0, a take-back reopens those equal to the length, a clear all
+    ∷ boardIs (then (made 1 (a ∷ 0 ∷ []) (0 ∷ 9 ∷ 0 ∷ [])) b) (2 ∷ 9 ∷ 0 ∷ [])
+    ∷ boardIs (back (made 1 (a ∷ []) (5 ∷ 1 ∷ 0 ∷ []))) (5 ∷ 0 ∷ 0 ∷ [])
+    ∷ tracks (clearing (made 241 [] []) .tracker) (0 ∷ []) (pair 0 1) 0 []
     ∷ []

@@ -61,7 +61,7 @@ isPeriod w x =
 unfoldable pub periods : List ℕ → List Pair
 periods w = keep (isPeriod w) (pairs (length w))
 
--- Definition 1 of documents 002 and 004: the word is u₀ u₁ .. uₖ₋₁ uₖ, the vectors of u₁ to uₖ₋₁ are equal, those of u₀ and uₖ are contained in
+-- Definition 1 of documents 002 and 004, of a word of letters: the word is u₀ u₁ .. uₖ₋₁ uₖ, the vectors of u₁ to uₖ₋₁ are equal, those of u₀ and uₖ are contained in
 -- them, |u₀| = h and |u₁| = p. Here `head` is u₀, `first` is u₁, `others` are u₂ to uₖ₋₁, and `tail` is uₖ.
 pub record AbelianPeriod (w : List ℕ) (x : Pair) : Type 0 where
   pub head : List ℕ

@@ -35,8 +35,8 @@ pub record Condition : Type 0 where
   pub holds : Bool
   pub refusal : Refusal
 
-abbrev when : Bool → Refusal → Condition
-when b r = record { holds = b; refusal = r }
+abbrev condition : Bool → Refusal → Condition
+condition b r = record { holds = b; refusal = r }
 
 -- the refusal of the first condition that holds
 unfoldable pub firstHolding : List Condition → Option Refusal
@@ -47,19 +47,19 @@ firstHolding (c ∷ cs) = pick (c .holds) (some (c .refusal)) (firstHolding cs)
 unfoldable pub wordRefusal : List ℕ → Bool → ℕ → ℕ → Option Refusal
 wordRefusal w outOfRange needed places =
     firstHolding
-    (when (ltb longest (length w)) TooLong
-    ∷ when (not (eqb (firstOutside alphabetSize w) 0)) (NotALetter (firstOutside alphabetSize w))
-    ∷ when outOfRange PairOutOfRange
-    ∷ when (ltb places needed) (SliceTooShort needed)
+    (condition (ltb longest (length w)) TooLong
+    ∷ condition (not (eqb (firstOutside alphabetSize w) 0)) (NotALetter (firstOutside alphabetSize w))
+    ∷ condition outOfRange PairOutOfRange
+    ∷ condition (ltb places needed) (SliceTooShort needed)
     ∷ [])
 
 -- "On a tracker: 6, 2, 4, 5, 3", of a call that meets these conditions or not, and needs so many words of a slice of so many places.
 unfoldable pub trackerRefusal : Bool → Bool → Bool → Bool → ℕ → ℕ → Option Refusal
 trackerRefusal damaged notALetter full empty needed places =
     firstHolding
-    (when damaged TrackerDamaged
-    ∷ when notALetter (NotALetter 1)
-    ∷ when full TrackerFull
-    ∷ when empty TrackerEmpty
-    ∷ when (ltb places needed) (SliceTooShort needed)
+    (condition damaged TrackerDamaged
+    ∷ condition notALetter (NotALetter 1)
+    ∷ condition full TrackerFull
+    ∷ condition empty TrackerEmpty
+    ∷ condition (ltb places needed) (SliceTooShort needed)
     ∷ [])

@@ -83,13 +83,13 @@ takingBack t =
 unfoldable pub clearing : Tracker → Step
 clearing t = record { tracker = freshTracker; answer = accepting }
 
--- the pairs in range for the length with entry 0
-unfoldable pub openPairs : Tracker → List Pair
-openPairs t = pairsWhere (λ (x : Pair) (e : ℕ). inRange (t .len) x && eqb e 0) (pairs longest) (t .board)
+-- the pairs in range for n whose entry on a board is 0, in pair order
+unfoldable pub openPairs : ℕ → List ℕ → List Pair
+openPairs n board = pairsWhere (λ (x : Pair) (e : ℕ). inRange n x && eqb e 0) (pairs longest) board
 
--- "List": refusals 6, 3; else the words of these pairs in the first places. The tracker stays as it is.
+-- "List": refusals 6, 3; else the words of the pairs in range with entry 0 in the first places. The tracker stays as it is.
 unfoldable pub trackerListing : Tracker → List ℕ → Step
 trackerListing t out =
-    let ws : List ℕ = map periodWord (openPairs t) in
+    let ws : List ℕ = map periodWord (openPairs (t .len) (t .board)) in
     stepUnless (trackerRefusal (damaged t) false false false (length ws) (length out)) out t
     (record { tracker = t; answer = writing (length ws) 0 0 0 (fill ws out) })

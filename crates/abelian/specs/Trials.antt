@@ -34,12 +34,12 @@ unfoldable pub occurrenceBound : List ℕ → ℕ → ℕ → ℕ
 occurrenceBound w h c = pick (ltb 0 (count c (take h w))) (occurrence c (2 * count c (take h w)) w - h) 0
 
 -- "L(h)": the largest of h + 1, the bounds by occurrences of each letter, and floor((G + 1)/2).
-unfoldable pub lowestPeriod : List ℕ → ℕ → ℕ
-lowestPeriod w h = max (suc h) (max (largest (map (occurrenceBound w h) letters)) ((greatestGap (drop h w) + 1) / 2))
+unfoldable pub lowestTried : List ℕ → ℕ → ℕ
+lowestTried w h = max (suc h) (max (largest (map (occurrenceBound w h) letters)) ((greatestGap (drop h w) + 1) / 2))
 
 -- the pair is one that the skipping lister tries
 unfoldable pub isCandidate : List ℕ → Pair → Bool
-isCandidate w x = not (ruledOut w (x .head)) && leb (lowestPeriod w (x .head)) (x .period)
+isCandidate w x = not (ruledOut w (x .head)) && leb (lowestTried w (x .head)) (x .period)
 
 -- The pairs in range whose h is not ruled out and with p ≥ L(h).
 unfoldable pub candidates : List ℕ → List Pair

@@ -1,5 +1,5 @@
 // The vocabulary of Abelian periods: the constants, the types of pairs, refusals, answers and trackers, and a refusal's number
-// and value. What each of them means is said in specs/, in the order of document 01; the crates above do the work.
+// and value. What each of them means is said in specs/, one file a subject; the crates above do the work.
 ghost use mathlib.Core.Path.{_≡_};
 ghost use Rattle.abelian.specs.Refusals.{numberOf, valueOf};
 
@@ -109,8 +109,9 @@ pub enum Outcome {
     Refused(Refusal),
 }
 
-// A word that grows and shrinks by letters, with the ended length of each pair in range for 240, in pair order. Bytes beyond the
-// length are 0 in a tracker that calls from a fresh one have made.
+// A word that grows and shrinks by letters: its length, its letters, and a board with an entry for each pair in range for 240, in
+// pair order. In a tracker that calls from a fresh one have made, the bytes beyond the length are 0 and each entry is its pair's ended
+// length.
 pub struct Tracker {
     pub len: usize,
     pub bytes: [u8; LONGEST],

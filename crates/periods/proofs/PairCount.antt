@@ -9,7 +9,8 @@ use Rattle.abelian.specs.Lists.{upFrom, sum, each}
 use Rattle.abelian.specs.Periods.{Pair, pair, heads, row, pairs}
 use Rattle.abelian.proofs.Lists.{length-upFrom}
 
-length-row : (n p : ℕ) → length (row n p) ≡ heads n p
+-- a row has a pair for each head
+pub length-row : (n p : ℕ) → length (row n p) ≡ heads n p
 unfolding row
 length-row n p = length-map (upFrom 0 (heads n p)) (λ (h : ℕ). pair h p) ∙ length-upFrom 0 (heads n p)
 

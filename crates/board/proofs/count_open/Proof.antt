@@ -1,0 +1,138 @@
+-- `board::count_open` meets its contract. The invariant of its loop: the open pairs of the rows passed are counted. The measure is what is left of
+-- the rows. Assumes nothing.
+use mathlib.Core.Path.{_≡_, refl, sym, ap, ap₂, _∙_}
+use Prim.Native.Nat.{ℕ, suc, _+_, _-_, _*_, _≤_}
+use native.Mathlib.Numerals.{add-one}
+use native.Mathlib.Omega.{arith}
+use lib.ListN.{length, take, drop, length-append, length-take}
+use Rattle.abelian.specs.Words.{longest, count, part}
+use Rattle.abelian.specs.Lists.{keep}
+use Rattle.abelian.specs.Periods.{heads, row}
+use Rattle.abelian.specs.Trackers.{boardSize}
+use Rattle.abelian.proofs.Counts.{count-le-length}
+use Rattle.board.specs.Places.{rowStart}
+use Rattle.board.proofs.Rows.{isOpen, openUpTo, openUpTo-more, openUpTo-all, row-count, row-end, heads-le}
+use borrow.Author.Needs.{needs}
+use Rattle.board.proofs.count_open.Statement.{statement}
+use Rattle.board.proofs.count_open.Tie as tie
+
+abbrev Inv-loop : tie.InvT-loop
+Inv-loop board n entries found₀ p₀ found p = (1 ≤ p) × (p ≤ suc n) × (found ≤ (p - 1) * longest) × (found ≡ length (openUpTo n board (p - 1)))
+
+abbrev μ-loop : tie.MeasureT-loop
+μ-loop board n entries found₀ p₀ found p = suc n - p
+
+loop-holds : tie.Need-loop-holds Inv-loop μ-loop
+loop-holds c = (omega arith, omega arith, omega arith, refl)
+
+row-start-requires : tie.Need-row-start-requires Inv-loop μ-loop
+row-start-requires c κs = omega arith
+
+row-heads-requires : tie.Need-row-heads-requires Inv-loop μ-loop
+row-heads-requires c κs = omega arith
+
+-- the row lies on the board, and begins and ends by the rule
+module _ (c : tie.After-row-heads Inv-loop μ-loop) where
+  abbrev at-loop : tie.At-loop Inv-loop μ-loop
+  at-loop = c .before .before .before
+
+  abbrev n : ℕ
+  n = at-loop .before .before .args .n
+
+  abbrev p : ℕ
+  p = at-loop .loop .p
+
+  on-board : rowStart p + heads n p ≤ boardSize
+  on-board = row-end n p (at-loop .loop .inv .0) (c .before .before .loop-test .taken) (at-loop .before .before .pre)
+
+  begins : c .before .row-start .result ≡ rowStart p
+  begins = c .before .row-start .ensures
+
+  has : c .row-heads .result ≡ heads n p
+  has = c .row-heads .ensures
+
+add-end : tie.Need-add-end Inv-loop μ-loop
+unfolding boardSize
+add-end c = omega (arith, on-board c, begins c, has c)
+
+sub-count-zeros : tie.Need-sub-count-zeros Inv-loop μ-loop
+sub-count-zeros c = search needs
+
+part-count-zeros-start : tie.Need-part-count-zeros-start Inv-loop μ-loop
+part-count-zeros-start c = search needs
+
+part-count-zeros-end : tie.Need-part-count-zeros-end Inv-loop μ-loop
+unfolding boardSize
+part-count-zeros-end c = omega (arith, on-board c, begins c, has c)
+
+count-zeros-requires : tie.Need-count-zeros-requires Inv-loop μ-loop
+count-zeros-requires c κs = search needs
+
+-- the zeros of the row
+zeros : (c : tie.After-count-zeros Inv-loop μ-loop) → c .count-zeros .result ≡ count 0 (part (at-loop (c .before .before) .before .before .args .board .now) (rowStart (p (c .before .before))) (heads (n (c .before .before)) (p (c .before .before))))
+zeros c =
+    let r = c .before .before in
+    let start = r .before .row-start .result in
+    let size : start + r .row-heads .result - start ≡ heads (n r) (p r) = omega (arith, has r) in
+    c .count-zeros .ensures ∙ ap₂ (λ k a. count 0 (take k (drop a (at-loop r .before .before .args .board .now)))) size (begins r)
+
+-- so there are at most as many as heads
+small : (c : tie.After-count-zeros Inv-loop μ-loop) → c .count-zeros .result ≤ longest
+small c =
+    let r = c .before .before in
+    let row = part (at-loop r .before .before .args .board .now) (rowStart (p r)) (heads (n r) (p r)) in
+    omega (arith, zeros c, count-le-length 0 row, length-take (heads (n r) (p r)) (drop (rowStart (p r)) (at-loop r .before .before .args .board .now)), heads-le (n r) (p r), at-loop r .before .before .pre, r .before .before .loop-test .taken)
+
+add-found : tie.Need-add-found Inv-loop μ-loop
+unfolding longest
+add-found c = omega (arith, small c, at-loop (c .before .before) .loop .inv .2, at-loop (c .before .before) .before .before .pre)
+
+add-p : tie.Need-add-p Inv-loop μ-loop
+unfolding longest
+add-p c = omega (arith, at-loop (c .before .before) .before .before .pre, c .before .before .before .before .loop-test .taken)
+
+loop-less : tie.Need-loop-less Inv-loop μ-loop
+loop-less c = search needs
+
+loop-again : tie.Need-loop-again Inv-loop μ-loop
+unfolding longest boardSize
+loop-again c =
+    let r = c .before .before in
+    let start = at-loop r .before .before in
+    let board = start .args .board .now in
+    let opened = keep (isOpen board) (row (n r) (p r)) in
+    let taken : p r ≤ n r = r .before .before .loop-test .taken in
+    let e : p r + 1 - 1 ≡ p r = omega arith in
+    let counted : length (openUpTo (n r) board (p r)) ≡ length (openUpTo (n r) board (p r - 1)) + length opened =
+        ap length (openUpTo-more (n r) board (p r) (at-loop r .loop .inv .0)) ∙ length-append (openUpTo (n r) board (p r - 1)) opened in
+    let open-count : length opened ≡ count 0 (part board (rowStart (p r)) (heads (n r) (p r))) = row-count board (n r) (p r) (omega (arith, on-board r)) in
+    (omega arith, omega arith, omega (arith, small c, at-loop r .loop .inv .2), rw e (omega (arith, counted, open-count, zeros c, at-loop r .loop .inv .3)))
+
+returns : tie.Need-returns Inv-loop μ-loop
+unfolding boardSize
+returns c =
+    let start = c .before .before .before in
+    let n = start .args .n in
+    let board = start .args .board .now in
+    let e : c .before .loop .p - 1 ≡ n = omega arith in
+    c .before .loop .inv .3 ∙ ap (λ (m : ℕ). length (openUpTo n board m)) e ∙ ap length (openUpTo-all n board (start .pre) (omega arith))
+
+pub count-open-spec : {M : Type 1} → statement M
+count-open-spec =
+    tie.close
+    (tie.spec
+    Inv-loop
+    μ-loop
+    loop-holds
+    row-start-requires
+    row-heads-requires
+    add-end
+    sub-count-zeros
+    part-count-zeros-start
+    part-count-zeros-end
+    count-zeros-requires
+    add-found
+    add-p
+    loop-less
+    loop-again
+    returns)

@@ -1,0 +1,157 @@
+-- `board::write_open` meets its contract. The invariant of its loop: the words of the rows passed stand in the first places. The measure is what
+-- is left of the rows. Assumes nothing.
+use mathlib.Core.Path.{_≡_, refl, sym, ap, ap₂, _∙_}
+use mathlib.Core.List.{List, _++_, map}
+use Prim.Native.Nat.{ℕ, suc, _+_, _-_, _≤_}
+use native.Mathlib.Nat.{zero-add}
+use native.Mathlib.Omega.{arith}
+use lib.ListN.{length, take, drop, length-append, length-take, length-map}
+use lib.Seq.{sets, sets-eq, length-sets}
+use Rattle.abelian.specs.Lists.{keep}
+use Rattle.abelian.specs.Words.{longest, count, part}
+use Rattle.abelian.specs.Periods.{Pair, heads, row}
+use Rattle.abelian.specs.Output.{periodWord, fill}
+use Rattle.abelian.specs.Trackers.{boardSize, openPairs}
+use Rattle.board.specs.Places.{rowStart}
+use Rattle.board.specs.Rows.{rowWords}
+use Rattle.board.proofs.Rows.{isOpen, openUpTo, openUpTo-more, openUpTo-rises, openUpTo-all, row-count, row-stored, row-end, heads-le}
+use borrow.Author.Needs.{needs}
+use Rattle.board.proofs.write_open.Statement.{statement}
+use Rattle.board.proofs.write_open.Tie as tie
+
+abbrev Inv-loop : tie.InvT-loop
+Inv-loop board n out₀ entries at₀ p₀ out at p = (1 ≤ p) × (p ≤ suc n) × (at ≡ length (openUpTo n board (p - 1))) × (out ≡ sets out₀ 0 (map periodWord (openUpTo n board (p - 1))))
+
+abbrev μ-loop : tie.MeasureT-loop
+μ-loop board n out₀ entries at₀ p₀ out at p = suc n - p
+
+loop-holds : tie.Need-loop-holds Inv-loop μ-loop
+loop-holds c = (omega arith, omega arith, refl, refl)
+
+row-start-requires : tie.Need-row-start-requires Inv-loop μ-loop
+row-start-requires c κs = omega arith
+
+row-heads-requires : tie.Need-row-heads-requires Inv-loop μ-loop
+row-heads-requires c κs = omega arith
+
+-- the row lies on the board, and begins and ends by the rule
+module _ (c : tie.After-row-heads Inv-loop μ-loop) where
+  abbrev at-loop : tie.At-loop Inv-loop μ-loop
+  at-loop = c .before .before .before
+
+  abbrev start : tie.Start Inv-loop μ-loop
+  start = at-loop .before .before .before
+
+  abbrev n : ℕ
+  n = start .args .n
+
+  abbrev board : List ℕ
+  board = start .args .board .now
+
+  abbrev p : ℕ
+  p = at-loop .loop .p
+
+  on-board : rowStart p + heads n p ≤ boardSize
+  on-board = row-end n p (at-loop .loop .inv .0) (c .before .before .loop-test .taken) (start .pre .0)
+
+  begins : c .before .row-start .result ≡ rowStart p
+  begins = c .before .row-start .ensures
+
+  has : c .row-heads .result ≡ heads n p
+  has = c .row-heads .ensures
+
+  -- the part that is lent is the row
+  lent : take (c .before .row-start .result + c .row-heads .result - c .before .row-start .result) (drop (c .before .row-start .result) board) ≡ part board (rowStart p) (heads n p)
+  lent =
+      let size : c .before .row-start .result + c .row-heads .result - c .before .row-start .result ≡ heads n p = omega (arith, has) in
+      ap₂ (λ k a. take k (drop a board)) size begins
+
+  fits : length board ≡ boardSize
+  unfolding boardSize
+  fits = omega (arith, start .good)
+
+  row-open : length (openUpTo n board p) ≡ length (openUpTo n board (p - 1)) + count 0 (part board (rowStart p) (heads n p))
+  row-open =
+      ap length (openUpTo-more n board p (at-loop .loop .inv .0)) ∙ length-append (openUpTo n board (p - 1)) (keep (isOpen board) (row n p))
+      ∙ ap (λ (k : ℕ). length (openUpTo n board (p - 1)) + k) (row-count board n p (omega (arith, on-board, fits)))
+
+  same-places : length (at-loop .loop .out) ≡ length (start .args .out .now)
+  same-places = ap length (at-loop .loop .inv .3) ∙ length-sets (start .args .out .now) 0 (map periodWord (openUpTo n board (p - 1)))
+
+add-end : tie.Need-add-end Inv-loop μ-loop
+unfolding boardSize
+add-end c = omega (arith, on-board c, begins c, has c)
+
+sub-write-row : tie.Need-sub-write-row Inv-loop μ-loop
+sub-write-row c = search needs
+
+part-write-row-start : tie.Need-part-write-row-start Inv-loop μ-loop
+part-write-row-start c = search needs
+
+part-write-row-end : tie.Need-part-write-row-end Inv-loop μ-loop
+unfolding boardSize
+part-write-row-end c = omega (arith, on-board c, begins c, has c)
+
+write-row-requires : tie.Need-write-row-requires Inv-loop μ-loop
+write-row-requires c κs =
+    let r = c .before .before in
+    let row = part (board r) (rowStart (p r)) (heads (n r) (p r)) in
+    let taken : p r ≤ n r = r .before .before .loop-test .taken in
+    ((omega (arith, ap length (lent r), length-take (heads (n r) (p r)) (drop (rowStart (p r)) (board r)), heads-le (n r) (p r), start r .pre .0), omega (arith, start r .pre .0)),
+    omega (arith, ap (count 0) (lent r), row-open r, openUpTo-rises (n r) (board r) taken, ap length (openUpTo-all (n r) (board r) (start r .pre .0) (fits r)), start r .pre .1, same-places r, at-loop r .loop .inv .2))
+
+add-p : tie.Need-add-p Inv-loop μ-loop
+unfolding longest
+add-p c = let r = c .before .before .before .before .before in omega (arith, r .before .before .loop-test .taken, start r .pre .0)
+
+loop-less : tie.Need-loop-less Inv-loop μ-loop
+loop-less c = let r = c .before .before .before .before .before in omega (arith, r .before .before .loop-test .taken)
+
+loop-again : tie.Need-loop-again Inv-loop μ-loop
+loop-again c =
+    let r = c .before .before .before .before .before in
+    let w = c .before .before .write-row in
+    let e : p r + 1 - 1 ≡ p r = omega arith in
+    (omega arith, omega (arith, r .before .before .loop-test .taken),
+    rw e (omega (arith, w .ensures .0, ap (count 0) (lent r), row-open r, at-loop r .loop .inv .2)),
+    rw e (w .ensures .1 ∙ ap (λ (es : List ℕ). sets (at-loop r .loop .out) (at-loop r .loop .at) (rowWords (p r) 0 es)) (lent r) ∙ row-stored (n r) (board r) (start r .args .out .now) (at-loop r .loop .out) (at-loop r .loop .at) (p r) (at-loop r .loop .inv .0) (omega (arith, on-board r, fits r)) (at-loop r .loop .inv .2) (at-loop r .loop .inv .3)))
+
+same-length : tie.Need-same-length Inv-loop μ-loop
+same-length c =
+    let t = c .before .before .before .before in
+    ap length (c .before .loop .inv .3) ∙ length-sets (t .args .out .now) 0 (map periodWord (openUpTo (t .args .n) (t .args .board .now) (c .before .loop .p - 1)))
+
+returns : tie.Need-returns Inv-loop μ-loop
+unfolding boardSize fill
+returns c =
+    let t = c .before .before .before .before in
+    let n = t .args .n in
+    let board = t .args .board .now in
+    let out = t .args .out .now in
+    let words = map periodWord (openPairs n board) in
+    let e : c .before .loop .p - 1 ≡ n = omega arith in
+    let all : openUpTo n board (c .before .loop .p - 1) ≡ openPairs n board = ap (openUpTo n board) e ∙ openUpTo-all n board (t .pre .0) (omega (arith, t .good)) in
+    c .before .loop .inv .3
+    ∙ ap (λ (xs : List Pair). sets out 0 (map periodWord xs)) all
+    ∙ sets-eq words out 0 (omega (arith, length-map (openPairs n board) periodWord, t .pre .1))
+    ∙ ap (λ (k : ℕ). words ++ drop k out) (zero-add (length words))
+
+pub write-open-spec : {M : Type 1} → statement M
+write-open-spec =
+    tie.close
+    (tie.spec
+    Inv-loop
+    μ-loop
+    loop-holds
+    row-start-requires
+    row-heads-requires
+    add-end
+    sub-write-row
+    part-write-row-start
+    part-write-row-end
+    write-row-requires
+    add-p
+    loop-less
+    loop-again
+    same-length
+    returns)

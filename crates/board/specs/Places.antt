@@ -1,0 +1,14 @@
+-- The place of a pair on a board.
+use Prim.Native.Nat.{ℕ, _+_, _-_, _*_, _/_}
+use mathlib.Core.Bool.{Bool}
+use lib.Dec.{leb}
+use Rattle.abelian.specs.Lists.{pick}
+use Rattle.abelian.specs.Periods.{Pair}
+
+-- Where the row of a period begins: behind all pairs with a smaller one. Rows grow by one pair up to p = 120 and then shrink by one.
+unfoldable pub rowStart : ℕ → ℕ
+rowStart p = pick (leb p 121) (p * (p - 1) / 2) (14520 - (241 - p) * (242 - p) / 2)
+
+-- The place of a pair: its row's start, and its head.
+unfoldable pub placeOf : Pair → ℕ
+placeOf x = rowStart (x .period) + x .head

@@ -1,0 +1,129 @@
+// The board: one entry for each pair in range for 240, in pair order. The place of a pair, and the pairs whose entry is 0 counted and
+// written: the tracker's list and both listers end in these two. For the crates above.
+mod row_starts;
+
+use abelian::BOARD;
+use abelian::Head;
+use abelian::Period;
+use row_starts::ROW_STARTS;
+ghost use mathlib.Core.Path.{_≡_};
+ghost use mathlib.Core.List.{map};
+ghost use Prim.Native.Nat.{_+_, _≤_};
+ghost use lib.Dec.{T};
+ghost use lib.ListN.{length};
+ghost use lib.Seq.{sets};
+ghost use Rattle.abelian.specs.Words.{longest, count};
+ghost use Rattle.abelian.specs.Periods.{pair, inRange, heads};
+ghost use Rattle.abelian.specs.Output.{periodWord, fill};
+ghost use Rattle.abelian.specs.Trackers.{openPairs};
+ghost use Rattle.board.specs.Places.{rowStart, placeOf};
+ghost use Rattle.board.specs.Rows.{rowWords};
+
+// Where the row of the period begins.
+pub fn row_start(period: Period) -> usize
+    requires { ⌜ period .0 ≤ longest ⌝ }
+    ensures { λ r. ⌜ r ≡ rowStart (period .0) ⌝ }
+{
+    let p = period.0;
+    ROW_STARTS[p] as usize
+}
+
+// The place of the pair's entry.
+pub fn place(head: Head, period: Period) -> usize
+    requires { ⌜ T (inRange longest (pair (head .0) (period .0))) ⌝ }
+    ensures { λ r. ⌜ r ≡ placeOf (pair (head .0) (period .0)) ⌝ }
+{
+    row_start(period) + head.0
+}
+
+// How many heads are in range for n with the period: those below p that leave room for a block.
+pub fn row_heads(n: usize, period: Period) -> usize
+    requires { ⌜ (period .0 ≤ n) × (n ≤ longest) ⌝ }
+    ensures { λ r. ⌜ r ≡ heads n (period .0) ⌝ }
+{
+    let p = period.0;
+    if p <= n - p {
+        p
+    } else {
+        n + 1 - p
+    }
+}
+
+// How many of the entries are 0.
+fn count_zeros(row: &[u8]) -> usize
+    ensures { λ r. ⌜ r ≡ count 0 (now (row .entry)) ⌝ }
+{
+    let mut zeros = 0;
+    let mut i = 0;
+    while i < row.len() {
+        if row[i] == 0 {
+            zeros += 1;
+        }
+        i += 1;
+    }
+    zeros
+}
+
+// How many pairs in range for n have the entry 0.
+pub fn count_open(board: &[u8; BOARD], n: usize) -> usize
+    requires { ⌜ n ≤ longest ⌝ }
+    ensures { λ r. ⌜ r ≡ length (openPairs n (now (board .entry))) ⌝ }
+{
+    let entries = &board[..];
+    let mut found = 0;
+    let mut p = 1;
+    while p <= n {
+        let start = row_start(Period(p));
+        let end = start + row_heads(n, Period(p));
+        found += count_zeros(&entries[start..end]);
+        p += 1;
+    }
+    found
+}
+
+// The output word of an Abelian period: kind 1, the period above, the head below.
+pub fn period_word(head: Head, period: Period) -> u32
+    requires { ⌜ (head .0 ≤ longest) × (period .0 ≤ longest) ⌝ }
+    ensures { λ r. ⌜ r ≡ periodWord (pair (head .0) (period .0)) ⌝ }
+{
+    let h = head.0 as u32;
+    let p = period.0 as u32;
+    268435456 + p * 16384 + h
+}
+
+// Writes the words of a row's open pairs from the place `at` on, and returns the place behind them. `row` has the entries of the period,
+// by head.
+fn write_row(row: &[u8], period: Period, out: &mut [u32], at: usize) -> usize
+    requires { ⌜ (length (now row) ≤ longest) × (period .0 ≤ longest) ⌝ }
+    requires { ⌜ at + count 0 (now row) ≤ length (now out) ⌝ }
+    ensures { λ r. ⌜ r ≡ at + count 0 (now (row .entry)) ⌝ }
+    ensures { λ _. ⌜ now (out .exit) ≡ sets (now (out .entry)) at (rowWords (period .0) 0 (now (row .entry))) ⌝ }
+{
+    let mut next = at;
+    let mut h = 0;
+    while h < row.len() {
+        if row[h] == 0 {
+            out[next] = period_word(Head(h), period);
+            next += 1;
+        }
+        h += 1;
+    }
+    next
+}
+
+// Writes the words of the pairs in range for n whose entry is 0 to the first places, in pair order.
+pub fn write_open(board: &[u8; BOARD], n: usize, out: &mut [u32])
+    requires { ⌜ n ≤ longest ⌝ }
+    requires { ⌜ length (openPairs n (now board)) ≤ length (now out) ⌝ }
+    ensures { λ _. ⌜ now (out .exit) ≡ fill (map periodWord (openPairs n (now (board .entry)))) (now (out .entry)) ⌝ }
+{
+    let entries = &board[..];
+    let mut at = 0;
+    let mut p = 1;
+    while p <= n {
+        let start = row_start(Period(p));
+        let end = start + row_heads(n, Period(p));
+        at = write_row(&entries[start..end], Period(p), out, at);
+        p += 1;
+    }
+}
