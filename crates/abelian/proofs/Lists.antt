@@ -118,6 +118,14 @@ keep-append f (x ∷ xs) ys = go (f x) (keep-append f xs ys)
     go true e = ap (λ l. x ∷ l) e
     go false e = e
 
+-- tests that agree on a list keep the same
+pub keep-agree : {A : Type 0} (f g : A → Bool) (xs : List A) → ((a : A) → List·Memᴰ a xs → f a ≡ g a) → keep f xs ≡ keep g xs
+keep-agree f g [] h = refl
+keep-agree f g (x ∷ xs) h =
+    let e : f x ≡ g x = h x (List·Memᴰ·head refl) in
+    let t : keep f xs ≡ keep g xs = keep-agree f g xs (λ a m. h a (List·Memᴰ·tail m)) in
+    rw (e, t)
+
 pub each-append : {A B : Type 0} (f : A → List B) (xs ys : List A) → each (xs ++ ys) f ≡ each xs f ++ each ys f
 each-append f [] ys = refl
 each-append f (x ∷ xs) ys = ap (λ l. f x ++ l) (each-append f xs ys) ∙ sym (append-assoc (f x) (each xs f) (each ys f))

@@ -43,7 +43,8 @@ range-in n x r =
 
 -- ---- membership
 
-mem-row : (n p : ℕ) {x : Pair} → 1 ≤ p → List·Memᴰ x (row n p) → InRange n x × (x .period ≡ p)
+-- a row has pairs in range with its period
+pub mem-row : (n p : ℕ) {x : Pair} → 1 ≤ p → List·Memᴰ x (row n p) → InRange n x × (x .period ≡ p)
 unfolding row heads
 mem-row n p {x} l m =
     let r : (h : ℕ) × List·Memᴰ h (upFrom 0 (min p (suc n - p))) × (pair h p ≡ x) = Memᴰ·of-map (λ (h : ℕ). pair h p) (upFrom 0 (min p (suc n - p))) m in
@@ -126,15 +127,15 @@ rising-equal [] (y ∷ ys) r s f g = absurd (List·Memᴰ·not-nil (g y (List·M
 rising-equal (x ∷ xs) [] r s f g = absurd (List·Memᴰ·not-nil (f x (List·Memᴰ·head refl)))
 rising-equal (x ∷ xs) (y ∷ ys) r s f g =
     let e : x ≡ y =
-        ⊎-elim (λ (q : x ≡ y). q)
-        (λ (m : List·Memᴰ x ys).
-        ⊎-elim (λ (q : y ≡ x). sym q) (λ (k : List·Memᴰ y xs). absurd (before-asym x y (r .0 y k) (s .0 x m)))
-        (List·Memᴰ·cases-cons (g y (List·Memᴰ·head refl))))
-        (List·Memᴰ·cases-cons (f x (List·Memᴰ·head refl))) in
+    ⊎-elim (λ (q : x ≡ y). q)
+    (λ (m : List·Memᴰ x ys).
+    ⊎-elim (λ (q : y ≡ x). sym q) (λ (k : List·Memᴰ y xs). absurd (before-asym x y (r .0 y k) (s .0 x m)))
+    (List·Memᴰ·cases-cons (g y (List·Memᴰ·head refl))))
+    (List·Memᴰ·cases-cons (f x (List·Memᴰ·head refl))) in
     let t : xs ≡ ys =
-        rising-equal xs ys (r .1) (s .1)
-        (λ z m. ⊎-elim (λ (q : z ≡ y). absurd (irrefl x (subst (λ (a : Pair). Before x a) (q ∙ sym e) (r .0 z m)))) (λ k. k) (List·Memᴰ·cases-cons (f z (List·Memᴰ·tail m))))
-        (λ z m. ⊎-elim (λ (q : z ≡ x). absurd (irrefl y (subst (λ (a : Pair). Before y a) (q ∙ e) (s .0 z m)))) (λ k. k) (List·Memᴰ·cases-cons (g z (List·Memᴰ·tail m)))) in
+    rising-equal xs ys (r .1) (s .1)
+    (λ z m. ⊎-elim (λ (q : z ≡ y). absurd (irrefl x (subst (λ (a : Pair). Before x a) (q ∙ sym e) (r .0 z m)))) (λ k. k) (List·Memᴰ·cases-cons (f z (List·Memᴰ·tail m))))
+    (λ z m. ⊎-elim (λ (q : z ≡ x). absurd (irrefl y (subst (λ (a : Pair). Before y a) (q ∙ e) (s .0 z m)))) (λ k. k) (List·Memᴰ·cases-cons (g z (List·Memᴰ·tail m)))) in
     cc
   where
     irrefl : (a : Pair) → Before a a → ⊥

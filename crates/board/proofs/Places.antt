@@ -6,20 +6,20 @@ use mathlib.Core.Bool.{Bool, true, false, _&&_}
 use mathlib.Core.List.{List, [], _∷_, _++_, map, map-append, List·Memᴰ, List·Memᴰ·head, List·Memᴰ·tail, List·Memᴰ·cases-cons, List·Memᴰ·not-nil}
 use Prim.Native.Nat.{ℕ, zero, suc, _+_, _-_, _*_, _/_, _≤_, _<_}
 use native.Mathlib.Omega.{arith}
-use lib.ListN.{length, getD, length-append, length-map, List·getD-map}
-use lib.Seq.{ext-getD}
+use lib.ListN.{length, getD, set, length-append, length-map, length-set, List·getD-map}
+use lib.Seq.{ext-getD, getD-set-same, getD-set-other}
 use lib.Dec.{T, eqb}
-use borrow.Author.Tests.{eqb-true}
+use borrow.Author.Tests.{eqb-true, eqb-false}
 use Rattle.abelian.specs.Lists.{pick, upFrom, all, each, put, keep}
 use Rattle.abelian.specs.Words.{longest}
 use Rattle.abelian.specs.Periods.{Pair, pair, inRange, heads, row, pairs, Rising}
 use Rattle.abelian.specs.EndedLengths.{boardOf}
 use Rattle.abelian.specs.Trackers.{boardSize, entries, pairsWhere}
-use Rattle.abelian.proofs.Tests.{is-true, both, left, right}
+use Rattle.abelian.proofs.Tests.{is-true, both, left, right, decided}
 use Rattle.abelian.proofs.Lists.{all-mem, upFrom-mem, mem-keep, keep-mem, length-upFrom}
 use Rattle.abelian.proofs.Pairs.{InRange, in-range, range-in, pairs-in-range, in-range-pairs, pairs-rising, rising-keep, rising-equal}
 use Rattle.periods.proofs.PairCount.{length-row, pair-count}
-use Rattle.board.specs.Places.{rowStart, placeOf}
+use Rattle.board.specs.Places.{rowStart, placeOf, entryAt}
 
 -- ---- rows
 
@@ -124,10 +124,6 @@ boardOf-at f x t =
     let l : placeOf x < length (map f (pairs longest)) = omega (arith, length-map (pairs longest) f, r .0) in
     getD-default (map f (pairs longest)) (placeOf x) 0 (f d) l ∙ List·getD-map f (pairs longest) (placeOf x) d ∙ ap f (r .1)
 
--- the entry of a pair
-abbrev pub entryAt : List ℕ → Pair → ℕ
-entryAt board x = getD board (placeOf x) 0
-
 -- a board is that of its own entries
 pub board-of-entries : (board : List ℕ) → length board ≡ boardSize → board ≡ boardOf (entryAt board)
 unfolding boardOf
@@ -182,3 +178,27 @@ keep-in-range n f l =
     let r : InRange n z = in-range n z i in
     let w : T (inRange longest z) = range-in longest z (record { positive = r .positive; below = r .below; fits = omega (arith, r .fits) }) in
     keep-mem t (pairs longest) (in-range-pairs longest z w) (both (inRange n z) (f z) i (mem-keep f (pairs n) m .1)))
+
+-- entries made anew, on any board
+pub entries-of : (f : Pair → ℕ → ℕ) (board : List ℕ) → length board ≡ boardSize → entries f (pairs longest) board ≡ boardOf (λ (x : Pair). f x (entryAt board x))
+entries-of f board e = ap (entries f (pairs longest)) (board-of-entries board e) ∙ entries-boardOf f (entryAt board)
+
+-- pairs at one place are one pair
+pub place-injective : (x y : Pair) → T (inRange longest x) → T (inRange longest y) → placeOf x ≡ placeOf y → x ≡ y
+place-injective x y s t e =
+    let d : Pair = pair 0 0 in
+    sym (pair-at-place d x s .1) ∙ ap (λ (k : ℕ). getD (pairs longest) k d) e ∙ pair-at-place d y t .1
+
+-- a store at a pair's place changes that pair's entry alone
+pub set-boardOf : (f : Pair → ℕ) (y : Pair) (v : ℕ) → T (inRange longest y) → set (boardOf f) (placeOf y) v ≡ boardOf (λ (x : Pair). pick (eqb (placeOf x) (placeOf y)) v (f x))
+set-boardOf f y v t =
+    let new = set (boardOf f) (placeOf y) v in
+    let long : length new ≡ boardSize = length-set (boardOf f) (placeOf y) v ∙ length-boardOf f in
+    board-of-entries new long
+    ∙ boardOf-agree (entryAt new) (λ (x : Pair). pick (eqb (placeOf x) (placeOf y)) v (f x))
+    (λ x s.
+    ⊎-elim
+    (λ (e : eqb (placeOf x) (placeOf y) ≡ true).
+    rw (e, eqb-true (placeOf x) (placeOf y) e) (getD-set-same (boardOf f) (placeOf y) v 0 (omega (arith, place-below y t, length-boardOf f))))
+    (λ (e : eqb (placeOf x) (placeOf y) ≡ false). rw e (getD-set-other (boardOf f) (placeOf y) (placeOf x) v 0 (eqb-false (placeOf x) (placeOf y) e) ∙ boardOf-at f x s))
+    (decided (eqb (placeOf x) (placeOf y))))

@@ -15,9 +15,9 @@ use Rattle.abelian.specs.Output.{periodWord}
 use Rattle.abelian.specs.Trackers.{boardSize, openPairs, pairsWhere}
 use Rattle.abelian.proofs.Tests.{is-true}
 use Rattle.abelian.proofs.Lists.{all-mem, upFrom-mem, keep-append, each-append, each-last}
-use Rattle.board.specs.Places.{rowStart, placeOf}
+use Rattle.board.specs.Places.{rowStart, placeOf, entryAt, isOpen}
 use Rattle.board.specs.Rows.{rowWords}
-use Rattle.board.proofs.Places.{upFrom-append, entryAt, board-of-entries, pairsWhere-boardOf, keep-in-range}
+use Rattle.board.proofs.Places.{upFrom-append, board-of-entries, pairsWhere-boardOf, keep-in-range}
 
 -- ---- stores one behind the other
 
@@ -38,7 +38,7 @@ length-rowWords p h (e ∷ es) = go (eqb e 0) (length-rowWords p (suc h) es)
 
 -- one entry more
 pub rowWords-more : (p h : ℕ) (es : List ℕ) (i : ℕ) → i < length es
-  → rowWords p h (take (suc i) es) ≡ rowWords p h (take i es) ++ put (eqb (getD es i 0) 0) (periodWord (pair (h + i) p)) []
+    → rowWords p h (take (suc i) es) ≡ rowWords p h (take i es) ++ put (eqb (getD es i 0) 0) (periodWord (pair (h + i) p)) []
 unfolding rowWords
 rowWords-more p h [] i l = absurd (omega arith)
 rowWords-more p h (e ∷ es) zero l = let q : h + 0 ≡ h = omega arith in rw q
@@ -48,32 +48,28 @@ rowWords-more p h (e ∷ es) (suc i) l = let q : h + suc i ≡ suc h + i = omega
     last = put (eqb (getD es i 0) 0) (periodWord (pair (suc h + i) p)) []
 
     go : (b : Bool) → rowWords p (suc h) (take (suc i) es) ≡ rowWords p (suc h) (take i es) ++ last
-      → put b (periodWord (pair h p)) (rowWords p (suc h) (take (suc i) es)) ≡ put b (periodWord (pair h p)) (rowWords p (suc h) (take i es)) ++ last
+        → put b (periodWord (pair h p)) (rowWords p (suc h) (take (suc i) es)) ≡ put b (periodWord (pair h p)) (rowWords p (suc h) (take i es)) ++ last
     go true q = ap (λ (ws : List ℕ). periodWord (pair h p) ∷ ws) q
     go false q = q
 
 -- ---- the open pairs
 
--- the pair's entry is 0
-abbrev pub isOpen : List ℕ → Pair → Bool
-isOpen board x = eqb (entryAt board x) 0
-
 -- the words of a row are those of its open pairs
 heads-words : (board : List ℕ) (p a m : ℕ) → rowStart p + a + m ≤ length board
-  → rowWords p a (part board (rowStart p + a) m) ≡ map periodWord (keep (isOpen board) (map (λ (h : ℕ). pair h p) (upFrom a m)))
+    → rowWords p a (part board (rowStart p + a) m) ≡ map periodWord (keep (isOpen board) (map (λ (h : ℕ). pair h p) (upFrom a m)))
 unfolding rowWords placeOf
 heads-words board p a zero l = refl
 heads-words board p a (suc m) l =
     let e : suc (rowStart p + a) ≡ rowStart p + suc a = omega arith in
     let i : rowWords p (suc a) (part board (suc (rowStart p + a)) m) ≡ map periodWord (keep (isOpen board) (map (λ (h : ℕ). pair h p) (upFrom (suc a) m))) =
-        rw e (heads-words board p (suc a) m (omega arith)) in
+    rw e (heads-words board p (suc a) m (omega arith)) in
     rw (drop-cons board (rowStart p + a) 0 (omega arith)) (go (eqb (getD board (rowStart p + a) 0) 0) i)
   where
     rest : List Pair
     rest = keep (isOpen board) (map (λ (h : ℕ). pair h p) (upFrom (suc a) m))
 
     go : (b : Bool) → rowWords p (suc a) (part board (suc (rowStart p + a)) m) ≡ map periodWord rest
-      → put b (periodWord (pair a p)) (rowWords p (suc a) (part board (suc (rowStart p + a)) m)) ≡ map periodWord (put b (pair a p) rest)
+        → put b (periodWord (pair a p)) (rowWords p (suc a) (part board (suc (rowStart p + a)) m)) ≡ map periodWord (put b (pair a p) rest)
     go true q = ap (λ (ws : List ℕ). periodWord (pair a p) ∷ ws) q
     go false q = q
 
@@ -105,12 +101,12 @@ openUpTo-more n board (suc m) l =
 
 -- a row's words stored behind those of the rows before it
 pub row-stored : (n : ℕ) (board old out : List ℕ) (at p : ℕ) → 1 ≤ p → rowStart p + heads n p ≤ length board → at ≡ length (openUpTo n board (p - 1)) → out ≡ sets old 0 (map periodWord (openUpTo n board (p - 1)))
-  → sets out at (rowWords p 0 (part board (rowStart p) (heads n p))) ≡ sets old 0 (map periodWord (openUpTo n board p))
+    → sets out at (rowWords p 0 (part board (rowStart p) (heads n p))) ≡ sets old 0 (map periodWord (openUpTo n board p))
 row-stored n board old out at p l u a o =
     let before = openUpTo n board (p - 1) in
     let opened = keep (isOpen board) (row n p) in
     let words : map periodWord (openUpTo n board p) ≡ map periodWord before ++ map periodWord opened =
-        ap (map periodWord) (openUpTo-more n board p l) ∙ map-append periodWord before opened in
+    ap (map periodWord) (openUpTo-more n board p l) ∙ map-append periodWord before opened in
     let placed : at ≡ 0 + length (map periodWord before) = omega (arith, a, length-map before periodWord) in
     rw (row-words board n p u, placed, o, words) (sym (sets-append old 0 (map periodWord before) (map periodWord opened)))
 
@@ -120,10 +116,10 @@ openUpTo-rises n board {m} {k} l =
     let e : m + (k - m) ≡ k = omega arith in
     let later = each (upFrom (1 + m) (k - m)) (row n) in
     let s : openUpTo n board k ≡ openUpTo n board m ++ keep (isOpen board) later =
-        ap (λ (j : ℕ). openUpTo n board j) (sym e)
-        ∙ ap (λ (ps : List ℕ). keep (isOpen board) (each ps (row n))) (upFrom-append 1 m (k - m))
-        ∙ ap (keep (isOpen board)) (each-append (row n) (upFrom 1 m) (upFrom (1 + m) (k - m)))
-        ∙ keep-append (isOpen board) (each (upFrom 1 m) (row n)) later in
+    ap (λ (j : ℕ). openUpTo n board j) (sym e)
+    ∙ ap (λ (ps : List ℕ). keep (isOpen board) (each ps (row n))) (upFrom-append 1 m (k - m))
+    ∙ ap (keep (isOpen board)) (each-append (row n) (upFrom 1 m) (upFrom (1 + m) (k - m)))
+    ∙ keep-append (isOpen board) (each (upFrom 1 m) (row n)) later in
     omega (arith, ap length s, length-append (openUpTo n board m) (keep (isOpen board) later))
 
 -- all rows
@@ -152,7 +148,7 @@ pub row-end : (n p : ℕ) → 1 ≤ p → p ≤ n → n ≤ longest → rowStart
 unfolding heads
 row-end n p l m u =
     let b : rowStart p + heads longest p ≤ boardSize =
-        leb-true _ _ (is-true _ (all-mem (λ (q : ℕ). leb (rowStart q + heads longest q) boardSize) (upFrom 1 longest) rows-end (upFrom-mem 1 longest p l (omega arith)))) in
+    leb-true _ _ (is-true _ (all-mem (λ (q : ℕ). leb (rowStart q + heads longest q) boardSize) (upFrom 1 longest) rows-end (upFrom-mem 1 longest p l (omega arith)))) in
     omega arith
 
 pub heads-le : (n p : ℕ) → heads n p ≤ p

@@ -1,5 +1,6 @@
 // The board: one entry for each pair in range for 240, in pair order. The place of a pair, and the pairs whose entry is 0 counted and
 // written: the tracker's list and both listers end in these two. For the crates above.
+pub mod ending;
 mod row_starts;
 
 use abelian::BOARD;
@@ -42,11 +43,7 @@ pub fn row_heads(n: usize, period: Period) -> usize
     ensures { λ r. ⌜ r ≡ heads n (period .0) ⌝ }
 {
     let p = period.0;
-    if p <= n - p {
-        p
-    } else {
-        n + 1 - p
-    }
+    if p <= n - p { p } else { n + 1 - p }
 }
 
 // How many of the entries are 0.

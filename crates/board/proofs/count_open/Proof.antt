@@ -10,8 +10,8 @@ use Rattle.abelian.specs.Lists.{keep}
 use Rattle.abelian.specs.Periods.{heads, row}
 use Rattle.abelian.specs.Trackers.{boardSize}
 use Rattle.abelian.proofs.Counts.{count-le-length}
-use Rattle.board.specs.Places.{rowStart}
-use Rattle.board.proofs.Rows.{isOpen, openUpTo, openUpTo-more, openUpTo-all, row-count, row-end, heads-le}
+use Rattle.board.specs.Places.{rowStart, isOpen}
+use Rattle.board.proofs.Rows.{openUpTo, openUpTo-more, openUpTo-all, row-count, row-end, heads-le}
 use borrow.Author.Needs.{needs}
 use Rattle.board.proofs.count_open.Statement.{statement}
 use Rattle.board.proofs.count_open.Tie as tie
@@ -104,7 +104,7 @@ loop-again c =
     let taken : p r ≤ n r = r .before .before .loop-test .taken in
     let e : p r + 1 - 1 ≡ p r = omega arith in
     let counted : length (openUpTo (n r) board (p r)) ≡ length (openUpTo (n r) board (p r - 1)) + length opened =
-        ap length (openUpTo-more (n r) board (p r) (at-loop r .loop .inv .0)) ∙ length-append (openUpTo (n r) board (p r - 1)) opened in
+    ap length (openUpTo-more (n r) board (p r) (at-loop r .loop .inv .0)) ∙ length-append (openUpTo (n r) board (p r - 1)) opened in
     let open-count : length opened ≡ count 0 (part board (rowStart (p r)) (heads (n r) (p r))) = row-count board (n r) (p r) (omega (arith, on-board r)) in
     (omega arith, omega arith, omega (arith, small c, at-loop r .loop .inv .2), rw e (omega (arith, counted, open-count, zeros c, at-loop r .loop .inv .3)))
 

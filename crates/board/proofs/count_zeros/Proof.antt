@@ -39,19 +39,20 @@ loop-less : tie.Need-loop-less Inv-loop μ-loop
 loop-less c = search needs
 
 loop-again : tie.Need-loop-again Inv-loop μ-loop
-loop-again c = 
+loop-again c =
     let at-loop = c .before .before .before in
     let row = at-loop .before .args .row .now in
     let i = at-loop .loop .i in
-    let more : count 0 (take (suc i) row) ≡ count 0 (take i row) + one (eqb (getD row i 0) 0) = count-take-more 0 i row (omega arith) in
-    (omega arith,
-    rw add-one
-    (⊎-elim (λ w. let e : one (eqb (getD row i 0) 0) ≡ 1 = ap one (eq-eqb (getD row i 0) 0 (w .0 .taken)) in omega (arith, w .1, at-loop .loop .inv .1))
-    (λ w. let e : one (eqb (getD row i 0) 0) ≡ 0 = ap one (ne-eqb (getD row i 0) 0 (w .0 .left)) in omega (arith, w .1, at-loop .loop .inv .1))
-    (c .if1 .came)))
+    let more : count 0 (take (suc i) row) ≡ count 0 (take i row) + one (eqb (getD row i 0) 0) = count-take-more 0 i row (omega arith) in (
+      omega arith,
+      rw add-one
+          (⊎-elim (λ w. let e : one (eqb (getD row i 0) 0) ≡ 1 = ap one (eq-eqb (getD row i 0) 0 (w .0 .taken)) in omega (arith, w .1, at-loop .loop .inv .1))
+          (λ w. let e : one (eqb (getD row i 0) 0) ≡ 0 = ap one (ne-eqb (getD row i 0) 0 (w .0 .left)) in omega (arith, w .1, at-loop .loop .inv .1))
+          (c .if1 .came)),
+    )
 
 returns : tie.Need-returns Inv-loop μ-loop
-returns c = 
+returns c =
     let row = c .before .before .args .row .now in
     c .before .loop .inv .1 ∙ ap (count 0) (take-all (c .before .loop .i) row (omega arith))
 

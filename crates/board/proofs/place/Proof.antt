@@ -15,7 +15,7 @@ row-start-requires c κs = omega (arith, in-range longest (pair (c .args .head .
 
 add-result : tie.Need-add-result
 unfolding longest boardSize
-add-result c = 
+add-result c =
     let x = pair (c .before .before .args .head .0) (c .before .before .args .period .0) in
     let r : InRange longest x = in-range longest x (c .before .before .pre) in
     omega (arith, r .below, r .fits, c .before .row-start .ensures, start-within (x .period) (omega (arith, r .fits)))

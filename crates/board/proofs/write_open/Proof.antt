@@ -12,9 +12,9 @@ use Rattle.abelian.specs.Words.{longest, count, part}
 use Rattle.abelian.specs.Periods.{Pair, heads, row}
 use Rattle.abelian.specs.Output.{periodWord, fill}
 use Rattle.abelian.specs.Trackers.{boardSize, openPairs}
-use Rattle.board.specs.Places.{rowStart}
+use Rattle.board.specs.Places.{rowStart, isOpen}
 use Rattle.board.specs.Rows.{rowWords}
-use Rattle.board.proofs.Rows.{isOpen, openUpTo, openUpTo-more, openUpTo-rises, openUpTo-all, row-count, row-stored, row-end, heads-le}
+use Rattle.board.proofs.Rows.{openUpTo, openUpTo-more, openUpTo-rises, openUpTo-all, row-count, row-stored, row-end, heads-le}
 use borrow.Author.Needs.{needs}
 use Rattle.board.proofs.write_open.Statement.{statement}
 use Rattle.board.proofs.write_open.Tie as tie
@@ -96,9 +96,10 @@ write-row-requires : tie.Need-write-row-requires Inv-loop μ-loop
 write-row-requires c κs =
     let r = c .before .before in
     let row = part (board r) (rowStart (p r)) (heads (n r) (p r)) in
-    let taken : p r ≤ n r = r .before .before .loop-test .taken in
-    ((omega (arith, ap length (lent r), length-take (heads (n r) (p r)) (drop (rowStart (p r)) (board r)), heads-le (n r) (p r), start r .pre .0), omega (arith, start r .pre .0)),
-    omega (arith, ap (count 0) (lent r), row-open r, openUpTo-rises (n r) (board r) taken, ap length (openUpTo-all (n r) (board r) (start r .pre .0) (fits r)), start r .pre .1, same-places r, at-loop r .loop .inv .2))
+    let taken : p r ≤ n r = r .before .before .loop-test .taken in (
+      (omega (arith, ap length (lent r), length-take (heads (n r) (p r)) (drop (rowStart (p r)) (board r)), heads-le (n r) (p r), start r .pre .0), omega (arith, start r .pre .0)),
+      omega (arith, ap (count 0) (lent r), row-open r, openUpTo-rises (n r) (board r) taken, ap length (openUpTo-all (n r) (board r) (start r .pre .0) (fits r)), start r .pre .1, same-places r, at-loop r .loop .inv .2),
+    )
 
 add-p : tie.Need-add-p Inv-loop μ-loop
 unfolding longest
@@ -111,10 +112,12 @@ loop-again : tie.Need-loop-again Inv-loop μ-loop
 loop-again c =
     let r = c .before .before .before .before .before in
     let w = c .before .before .write-row in
-    let e : p r + 1 - 1 ≡ p r = omega arith in
-    (omega arith, omega (arith, r .before .before .loop-test .taken),
-    rw e (omega (arith, w .ensures .0, ap (count 0) (lent r), row-open r, at-loop r .loop .inv .2)),
-    rw e (w .ensures .1 ∙ ap (λ (es : List ℕ). sets (at-loop r .loop .out) (at-loop r .loop .at) (rowWords (p r) 0 es)) (lent r) ∙ row-stored (n r) (board r) (start r .args .out .now) (at-loop r .loop .out) (at-loop r .loop .at) (p r) (at-loop r .loop .inv .0) (omega (arith, on-board r, fits r)) (at-loop r .loop .inv .2) (at-loop r .loop .inv .3)))
+    let e : p r + 1 - 1 ≡ p r = omega arith in (
+      omega arith,
+      omega (arith, r .before .before .loop-test .taken),
+      rw e (omega (arith, w .ensures .0, ap (count 0) (lent r), row-open r, at-loop r .loop .inv .2)),
+      rw e (w .ensures .1 ∙ ap (λ (es : List ℕ). sets (at-loop r .loop .out) (at-loop r .loop .at) (rowWords (p r) 0 es)) (lent r) ∙ row-stored (n r) (board r) (start r .args .out .now) (at-loop r .loop .out) (at-loop r .loop .at) (p r) (at-loop r .loop .inv .0) (omega (arith, on-board r, fits r)) (at-loop r .loop .inv .2) (at-loop r .loop .inv .3)),
+    )
 
 same-length : tie.Need-same-length Inv-loop μ-loop
 same-length c =

@@ -88,19 +88,20 @@ loop-again c =
     let period = start k .args .period .0 in
     let words = rowWords period 0 (take (h k) (entries k)) in
     let word = periodWord (pair (h k) period) in
-    let placed : at-loop k .loop .next ≡ start k .args .at + length words = at-loop k .loop .inv .1 ∙ ap (λ (m : ℕ). start k .args .at + m) (sym (length-rowWords period 0 (take (h k) (entries k)))) in
-    (omega (arith, k .before .loop-test .taken),
-    rw add-one
-    (⊎-elim
-    (λ w. let e : one (eqb (getD (entries k) (h k) 0) 0) ≡ 1 = ap one (eq-eqb (getD (entries k) (h k) 0) 0 (w .0 .taken)) in omega (arith, more k, w .3, at-loop k .loop .inv .1))
-    (λ w. let e : one (eqb (getD (entries k) (h k) 0) 0) ≡ 0 = ap one (ne-eqb (getD (entries k) (h k) 0) 0 (w .0 .left)) in omega (arith, more k, w .2, at-loop k .loop .inv .1))
-    (c .if1 .came)),
-    rw (add-one, next-words k)
-    (⊎-elim
-    (λ w. rw (eq-eqb (getD (entries k) (h k) 0) 0 (w .0 .taken), sets-append (start k .args .out .now) (start k .args .at) words (word ∷ []), ← at-loop k .loop .inv .2, ← placed)
-    (w .2 ∙ ap (set (at-loop k .loop .out) (at-loop k .loop .next)) (w .1 .ensures)))
-    (λ w. rw (ne-eqb (getD (entries k) (h k) 0) 0 (w .0 .left), append-nil) (w .1 ∙ at-loop k .loop .inv .2))
-    (c .if1 .came)))
+    let placed : at-loop k .loop .next ≡ start k .args .at + length words = at-loop k .loop .inv .1 ∙ ap (λ (m : ℕ). start k .args .at + m) (sym (length-rowWords period 0 (take (h k) (entries k)))) in (
+      omega (arith, k .before .loop-test .taken),
+      rw add-one
+          (⊎-elim
+          (λ w. let e : one (eqb (getD (entries k) (h k) 0) 0) ≡ 1 = ap one (eq-eqb (getD (entries k) (h k) 0) 0 (w .0 .taken)) in omega (arith, more k, w .3, at-loop k .loop .inv .1))
+          (λ w. let e : one (eqb (getD (entries k) (h k) 0) 0) ≡ 0 = ap one (ne-eqb (getD (entries k) (h k) 0) 0 (w .0 .left)) in omega (arith, more k, w .2, at-loop k .loop .inv .1))
+          (c .if1 .came)),
+      rw (add-one, next-words k)
+          (⊎-elim
+          (λ w. rw (eq-eqb (getD (entries k) (h k) 0) 0 (w .0 .taken), sets-append (start k .args .out .now) (start k .args .at) words (word ∷ []), ← at-loop k .loop .inv .2, ← placed)
+          (w .2 ∙ ap (set (at-loop k .loop .out) (at-loop k .loop .next)) (w .1 .ensures)))
+          (λ w. rw (ne-eqb (getD (entries k) (h k) 0) 0 (w .0 .left), append-nil) (w .1 ∙ at-loop k .loop .inv .2))
+          (c .if1 .came)),
+    )
 
 same-length : tie.Need-same-length Inv-loop μ-loop
 same-length c =
@@ -110,9 +111,10 @@ same-length c =
 returns : tie.Need-returns Inv-loop μ-loop
 returns c =
     let s = c .before .before .before .before in
-    let all : take (c .before .loop .h) (s .args .row .now) ≡ s .args .row .now = take-all (c .before .loop .h) (s .args .row .now) (omega arith) in
-    (c .before .loop .inv .1 ∙ ap (λ (es : List ℕ). s .args .at + count 0 es) all,
-    c .before .loop .inv .2 ∙ ap (λ (es : List ℕ). sets (s .args .out .now) (s .args .at) (rowWords (s .args .period .0) 0 es)) all)
+    let all : take (c .before .loop .h) (s .args .row .now) ≡ s .args .row .now = take-all (c .before .loop .h) (s .args .row .now) (omega arith) in (
+      c .before .loop .inv .1 ∙ ap (λ (es : List ℕ). s .args .at + count 0 es) all,
+      c .before .loop .inv .2 ∙ ap (λ (es : List ℕ). sets (s .args .out .now) (s .args .at) (rowWords (s .args .period .0) 0 es)) all,
+    )
 
 pub write-row-spec : {M : Type 1} → statement M
 write-row-spec =

@@ -1,0 +1,252 @@
+-- Laws of ended pairs: a row gone through head by head, and a board row by row.
+use mathlib.Core.Path.{_≡_, refl, sym, ap, ap₂, subst, _∙_}
+use mathlib.Core.Logic.{_⊎_, inl, inr, ⊎-elim, _≢_}
+use mathlib.Core.Bool.{Bool, true, false, not, _&&_, and-false}
+use mathlib.Core.List.{List, [], _∷_, _++_, map, map-append, List·Memᴰ, List·Memᴰ·head, List·Memᴰ·tail}
+use Prim.Native.Nat.{ℕ, zero, suc, _+_, _-_, _*_, _≤_, _<_, min}
+use native.Mathlib.Omega.{arith}
+use lib.ListN.{length, getD, set, length-append}
+use lib.Seq.{set-getD}
+use lib.Dec.{T, eqb, ltb, leb}
+use borrow.Author.Tests.{eqb-true, eqb-false, eq-eqb, ne-eqb, lt-ltb, le-ltb, ltb-true, ltb-false, le-leb, lt-leb, leb-true, leb-false}
+use Rattle.abelian.specs.Lists.{pick, one, upFrom, put, keep, each}
+use Rattle.abelian.specs.Words.{longest}
+use Rattle.abelian.specs.Periods.{Pair, pair, inRange, heads, row, pairs, isPeriod}
+use Rattle.abelian.specs.EndedLengths.{boardOf}
+use Rattle.abelian.specs.Trackers.{boardSize, entries, entryAdded}
+use Rattle.abelian.proofs.Tests.{is-true, is-false, decided}
+use Rattle.abelian.proofs.Lists.{keep-append, keep-agree, upFrom-last}
+use Rattle.abelian.proofs.Pairs.{InRange, in-range, range-in, mem-row}
+use Rattle.periods.proofs.PairCount.{length-row}
+use Rattle.board.specs.Places.{placeOf, entryAt, isOpen}
+use Rattle.board.specs.Ending.{entryInRow, rowEnded, rowOpen, allEnded}
+use Rattle.board.proofs.Places.{boardOf-at, boardOf-agree, board-of-entries, entries-of, entries-boardOf, set-boardOf, place-injective}
+use Rattle.board.proofs.Rows.{openUpTo, openUpTo-more, heads-le}
+
+-- a pair that is not in range keeps its entry
+pub out-of-range-kept : (w : List ℕ) (x : Pair) (e : ℕ) → inRange (length w) x ≡ false → entryAdded w x e ≡ e
+unfolding entryAdded
+out-of-range-kept w x e o = rw (o, and-false)
+
+-- an entry above 0 is kept, and so is that of an Abelian period
+pub ended-kept : (w : List ℕ) (x : Pair) (e : ℕ) → e ≢ 0 → entryAdded w x e ≡ e
+unfolding entryAdded
+ended-kept w x e n = rw (ne-eqb e 0 n)
+
+pub period-kept : (w : List ℕ) (x : Pair) (e : ℕ) → isPeriod w x ≡ true → entryAdded w x e ≡ e
+unfolding entryAdded
+period-kept w x e p = rw (p, and-false)
+
+-- the entry 0 of a pair in range that is no Abelian period is set to the length
+pub open-ended : (w : List ℕ) (x : Pair) (e : ℕ) → e ≡ 0 → inRange (length w) x ≡ true → isPeriod w x ≡ false → entryAdded w x e ≡ length w
+unfolding entryAdded
+open-ended w x e z r p = rw (z, r, p)
+
+-- ---- a row, head by head
+
+-- the row of p gone through up to the head h
+abbrev pub below : List ℕ → ℕ → ℕ → List ℕ → Pair → ℕ
+below w p h board x = pick (eqb (x .period) p && ltb (x .head) h) (entryAdded w x (entryAt board x)) (entryAt board x)
+
+-- a head behind the row's last is out of range
+beyond-heads : (n p : ℕ) (x : Pair) → x .period ≡ p → heads n p ≤ x .head → inRange n x ≡ false
+unfolding heads
+beyond-heads n p x e l = is-false (inRange n x) (λ t. let r : InRange n x = in-range n x t in omega (arith, r .below, r .fits))
+
+module _ (w : List ℕ) (p : ℕ) (board : List ℕ) (long : length board ≡ boardSize) where
+  pub none-below : board ≡ boardOf (below w p 0 board)
+  none-below =
+      board-of-entries board long
+      ∙ boardOf-agree (entryAt board) (below w p 0 board) (λ x s. rw (le-ltb (x .head) 0 (omega arith), and-false))
+
+  module _ (h : ℕ) (i : T (inRange longest (pair h p))) where
+    -- the pair's entry has not been touched yet
+    pub entry-untouched : entryAt (boardOf (below w p h board)) (pair h p) ≡ entryAt board (pair h p)
+    entry-untouched = boardOf-at (below w p h board) (pair h p) i ∙ rw (le-ltb h h (omega arith), and-false)
+
+    -- with its new entry stored, the row is gone through up to the next head
+    pub next-below : set (boardOf (below w p h board)) (placeOf (pair h p)) (entryAdded w (pair h p) (entryAt board (pair h p))) ≡ boardOf (below w p (suc h) board)
+    next-below =
+        set-boardOf (below w p h board) (pair h p) (entryAdded w (pair h p) (entryAt board (pair h p))) i
+        ∙ boardOf-agree _ (below w p (suc h) board) agree
+      where
+        agree : (x : Pair) → T (inRange longest x)
+            → pick (eqb (placeOf x) (placeOf (pair h p))) (entryAdded w (pair h p) (entryAt board (pair h p))) (below w p h board x) ≡ below w p (suc h) board x
+        agree x s =
+            ⊎-elim
+            (λ (e : eqb (placeOf x) (placeOf (pair h p)) ≡ true).
+            let q : x ≡ pair h p = place-injective x (pair h p) s i (eqb-true (placeOf x) (placeOf (pair h p)) e) in
+            rw (e, q, eq-eqb p p refl, lt-ltb h (suc h) (omega arith)))
+            (λ (e : eqb (placeOf x) (placeOf (pair h p)) ≡ false). rw e (other x (eqb-false (placeOf x) (placeOf (pair h p)) e)))
+            (decided (eqb (placeOf x) (placeOf (pair h p))))
+          where
+            other : (y : Pair) → placeOf y ≢ placeOf (pair h p) → below w p h board y ≡ below w p (suc h) board y
+            other y n =
+                ⊎-elim
+                (λ (e : eqb (y .period) p ≡ true).
+                let f : y .period ≡ p = eqb-true (y .period) p e in
+                ⊎-elim (λ (l : ltb (y .head) h ≡ true). rw (l, lt-ltb (y .head) (suc h) (let m : y .head < h = ltb-true (y .head) h l in omega arith)))
+                (λ (l : ltb (y .head) h ≡ false).
+                let m : h ≤ y .head = ltb-false (y .head) h l in
+                let d : y .head ≢ h = λ q. n (ap₂ (λ a b. placeOf (pair a b)) q f) in
+                rw (l, le-ltb (y .head) (suc h) (omega arith)))
+                (decided (ltb (y .head) h)))
+                (λ (e : eqb (y .period) p ≡ false). rw e)
+                (decided (eqb (y .period) p))
+
+    -- an entry that stays
+    pub kept-below : entryAdded w (pair h p) (entryAt board (pair h p)) ≡ entryAt board (pair h p) → boardOf (below w p h board) ≡ boardOf (below w p (suc h) board)
+    kept-below e =
+        let at = placeOf (pair h p) in
+        sym (set-getD (boardOf (below w p h board)) at 0) ∙ ap (set (boardOf (below w p h board)) at) (entry-untouched ∙ sym e) ∙ next-below
+
+  -- the whole row
+  pub all-below : boardOf (below w p (heads (length w) p) board) ≡ rowEnded w p board
+  unfolding rowEnded entryInRow
+  all-below =
+      boardOf-agree (below w p (heads (length w) p) board) (λ (x : Pair). entryInRow w p x (entryAt board x)) agree
+      ∙ sym (entries-of (entryInRow w p) board long)
+    where
+      agree : (x : Pair) → T (inRange longest x) → below w p (heads (length w) p) board x ≡ entryInRow w p x (entryAt board x)
+      agree x s =
+          ⊎-elim
+          (λ (e : eqb (x .period) p ≡ true).
+          ⊎-elim (λ (l : ltb (x .head) (heads (length w) p) ≡ true). rw (e, l))
+          (λ (l : ltb (x .head) (heads (length w) p) ≡ false).
+          rw (e, l) (sym (out-of-range-kept w x (entryAt board x) (beyond-heads (length w) p x (eqb-true (x .period) p e) (ltb-false (x .head) (heads (length w) p) l)))))
+          (decided (ltb (x .head) (heads (length w) p))))
+          (λ (e : eqb (x .period) p ≡ false). rw e)
+          (decided (eqb (x .period) p))
+
+-- the open pairs of the row up to the head h
+abbrev pub openBelow : List ℕ → ℕ → ℕ → List Pair
+openBelow board p h = keep (isOpen board) (map (λ (k : ℕ). pair k p) (upFrom 0 h))
+
+pub openBelow-more : (board : List ℕ) (p h : ℕ) → length (openBelow board p (suc h)) ≡ length (openBelow board p h) + one (isOpen board (pair h p))
+openBelow-more board p h =
+    let e : 0 + h ≡ h = omega arith in
+    let heads-before = map (λ (k : ℕ). pair k p) (upFrom 0 h) in
+    let s : openBelow board p (suc h) ≡ openBelow board p h ++ put (isOpen board (pair h p)) (pair h p) [] =
+    ap (λ (ks : List ℕ). keep (isOpen board) (map (λ (k : ℕ). pair k p) ks)) (upFrom-last 0 h)
+    ∙ ap (λ (j : ℕ). keep (isOpen board) (map (λ (k : ℕ). pair k p) (upFrom 0 h ++ (j ∷ [])))) e
+    ∙ ap (keep (isOpen board)) (map-append (λ (k : ℕ). pair k p) (upFrom 0 h) (h ∷ []))
+    ∙ keep-append (isOpen board) heads-before (pair h p ∷ []) in
+    ap length s ∙ length-append (openBelow board p h) (put (isOpen board (pair h p)) (pair h p) [])
+    ∙ ap (λ (k : ℕ). length (openBelow board p h) + k) (length-put (isOpen board (pair h p)))
+  where
+    length-put : (b : Bool) → length (put b (pair h p) []) ≡ one b
+    length-put true = refl
+    length-put false = refl
+
+-- one head more whose pair is open is one trial more, and one that has ended is none
+pub open-below : (board : List ℕ) (p h : ℕ) → entryAt board (pair h p) ≡ 0 → length (openBelow board p (suc h)) ≡ length (openBelow board p h) + 1
+open-below board p h e = openBelow-more board p h ∙ ap (λ (b : Bool). length (openBelow board p h) + one b) (eq-eqb (entryAt board (pair h p)) 0 e)
+
+pub ended-below : (board : List ℕ) (p h : ℕ) → entryAt board (pair h p) ≢ 0 → length (openBelow board p (suc h)) ≡ length (openBelow board p h) + 0
+ended-below board p h n = openBelow-more board p h ∙ ap (λ (b : Bool). length (openBelow board p h) + one b) (ne-eqb (entryAt board (pair h p)) 0 n)
+
+-- ---- a board, row by row
+
+-- the rows up to m gone through
+abbrev pub upTo : List ℕ → ℕ → List ℕ → Pair → ℕ
+upTo w m board x = pick (leb (x .period) m) (entryAdded w x (entryAt board x)) (entryAt board x)
+
+module _ (w : List ℕ) (board : List ℕ) (long : length board ≡ boardSize) where
+  pub none-upTo : board ≡ boardOf (upTo w 0 board)
+  none-upTo =
+      board-of-entries board long
+      ∙ boardOf-agree (entryAt board) (upTo w 0 board) (λ x s. let r : InRange longest x = in-range longest x s in rw (lt-leb (x .period) 0 (r .positive)))
+
+  -- one row more
+  pub next-upTo : (m : ℕ) → rowEnded w (suc m) (boardOf (upTo w m board)) ≡ boardOf (upTo w (suc m) board)
+  unfolding rowEnded entryInRow
+  next-upTo m =
+      entries-boardOf (entryInRow w (suc m)) (upTo w m board)
+      ∙ boardOf-agree (λ (x : Pair). entryInRow w (suc m) x (upTo w m board x)) (upTo w (suc m) board) agree
+    where
+      agree : (x : Pair) → T (inRange longest x) → entryInRow w (suc m) x (upTo w m board x) ≡ upTo w (suc m) board x
+      agree x s =
+          ⊎-elim
+          (λ (e : eqb (x .period) (suc m) ≡ true).
+          let q : x .period ≡ suc m = eqb-true (x .period) (suc m) e in
+          rw (e, lt-leb (x .period) m (omega arith), le-leb (x .period) (suc m) (omega arith)))
+          (λ (e : eqb (x .period) (suc m) ≡ false).
+          let q : x .period ≢ suc m = eqb-false (x .period) (suc m) e in
+          ⊎-elim (λ (l : leb (x .period) m ≡ true). rw (e, l, le-leb (x .period) (suc m) (let k : x .period ≤ m = leb-true (x .period) m l in omega arith)))
+          (λ (l : leb (x .period) m ≡ false). rw (e, l, lt-leb (x .period) (suc m) (let k : m < x .period = leb-false (x .period) m l in omega arith)))
+          (decided (leb (x .period) m)))
+          (decided (eqb (x .period) (suc m)))
+
+  -- a row that has not been gone through yet is open as it was
+  pub row-untouched : (m : ℕ) → length w ≤ longest → rowOpen (length w) (boardOf (upTo w m board)) (suc m) ≡ keep (isOpen board) (row (length w) (suc m))
+  unfolding rowOpen
+  row-untouched m u =
+      keep-agree (isOpen (boardOf (upTo w m board))) (isOpen board) (row (length w) (suc m))
+      (λ x i.
+      let r : InRange (length w) x × (x .period ≡ suc m) = mem-row (length w) (suc m) (omega arith) i in
+      let t : T (inRange longest x) = range-in longest x (record { positive = r .0 .positive; below = r .0 .below; fits = omega (arith, r .0 .fits) }) in
+      let later : leb (x .period) m ≡ false = lt-leb (x .period) m (omega (arith, r .1)) in
+      let e : upTo w m board x ≡ entryAt board x = rw later in
+      ap (λ (k : ℕ). eqb k 0) (boardOf-at (upTo w m board) x t ∙ e))
+
+  -- all rows
+  pub all-upTo : boardOf (upTo w (length w) board) ≡ allEnded w board
+  unfolding allEnded
+  all-upTo =
+      boardOf-agree (upTo w (length w) board) (λ (x : Pair). entryAdded w x (entryAt board x)) agree
+      ∙ sym (entries-of (entryAdded w) board long)
+    where
+      agree : (x : Pair) → T (inRange longest x) → upTo w (length w) board x ≡ entryAdded w x (entryAt board x)
+      agree x s =
+          ⊎-elim (λ (l : leb (x .period) (length w) ≡ true). rw l)
+          (λ (l : leb (x .period) (length w) ≡ false).
+          rw l (sym (out-of-range-kept w x (entryAt board x)
+          (is-false (inRange (length w) x) (λ t. let r : InRange (length w) x = in-range (length w) x t in let k : length w < x .period = leb-false (x .period) (length w) l in omega (arith, r .fits))))))
+          (decided (leb (x .period) (length w)))
+
+-- the rows below p have been gone through: how many pairs were tried, and what is left
+pub record Gone (w old board : List ℕ) (trials p : ℕ) : Type 0 where
+  pub from : 1 ≤ p
+  pub to : p ≤ suc (length w)
+  pub few : trials ≤ (p - 1) * longest
+  pub counted : trials ≡ length (openUpTo (length w) old (p - 1))
+  pub ended : board ≡ boardOf (upTo w (p - 1) old)
+
+length-keep : (f : Pair → Bool) (xs : List Pair) → length (keep f xs) ≤ length xs
+length-keep f [] = omega arith
+length-keep f (x ∷ xs) = go (f x) (length-keep f xs)
+  where
+    go : (b : Bool) → length (keep f xs) ≤ length xs → length (put b x (keep f xs)) ≤ suc (length xs)
+    go true l = omega arith
+    go false l = omega arith
+
+-- a row has no more open pairs than heads
+pub few-in-row : (w board : List ℕ) (p : ℕ) → p ≤ length w → length w ≤ longest → length (rowOpen (length w) board p) ≤ longest
+unfolding rowOpen
+few-in-row w board p l u = omega (arith, length-keep (isOpen board) (row (length w) p), length-row (length w) p, heads-le (length w) p)
+
+pub none-gone : (w old : List ℕ) → length old ≡ boardSize → Gone w old old 0 1
+none-gone w old long = record { from = omega arith; to = omega arith; few = omega arith; counted = refl; ended = none-upTo w old long }
+
+few-more : (trials r m : ℕ) → trials ≤ (suc m - 1) * longest → r ≤ longest → trials + r ≤ (suc m + 1 - 1) * longest
+unfolding longest
+few-more trials r m f g = omega arith
+
+pub next-gone : (w old board board′ : List ℕ) (trials r p : ℕ) → length old ≡ boardSize → length w ≤ longest → p ≤ length w → Gone w old board trials p
+    → r ≡ length (rowOpen (length w) board p) → board′ ≡ rowEnded w p board → Gone w old board′ (trials + r) (p + 1)
+next-gone w old board board′ trials r zero long u l g e f = absurd (omega (arith, g .from))
+next-gone w old board board′ trials r (suc m) long u l g e f =
+    let d : suc m - 1 ≡ m = omega arith in
+    let d′ : suc m + 1 - 1 ≡ suc m = omega arith in
+    let now : board ≡ boardOf (upTo w m old) = rw d at (g .ended) in
+    let tried : r ≡ length (keep (isOpen old) (row (length w) (suc m))) = e ∙ ap (λ (b : List ℕ). length (rowOpen (length w) b (suc m))) now ∙ ap length (row-untouched w old long m u) in
+    let more : length (openUpTo (length w) old (suc m)) ≡ length (openUpTo (length w) old m) + length (keep (isOpen old) (row (length w) (suc m))) =
+    ap length (openUpTo-more (length w) old (suc m) (omega arith)) ∙ length-append (openUpTo (length w) old (suc m - 1)) (keep (isOpen old) (row (length w) (suc m)))
+    ∙ ap (λ (k : ℕ). length (openUpTo (length w) old k) + length (keep (isOpen old) (row (length w) (suc m)))) d in
+    record {
+      from = omega arith;
+      to = omega arith;
+      few = few-more trials r m (g .few) (omega (arith, e, few-in-row w board (suc m) l u));
+      counted = rw d′ (omega (arith, tried, more, rw d at (g .counted)));
+      ended = rw d′ (f ∙ ap (rowEnded w (suc m)) now ∙ next-upTo w old long m);
+    }

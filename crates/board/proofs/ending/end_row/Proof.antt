@@ -1,0 +1,172 @@
+-- `board::ending::end_row` meets its contract. The invariant of its loop: the row has been gone through up to the head h, and the trials are
+-- the open pairs passed. The measure is what is left of the row. Assumes nothing.
+use mathlib.Core.Path.{_≡_, refl, sym, ap, ap₂, _∙_}
+use mathlib.Core.Logic.{⊎-elim}
+use mathlib.Core.List.{List}
+use mathlib.Core.Bool.{Bool, true, false, not}
+use Prim.Native.Nat.{ℕ, suc, _+_, _-_, _≤_, _<_, min}
+use native.Mathlib.Numerals.{add-one}
+use native.Mathlib.Omega.{arith}
+use lib.ListN.{length, getD, set}
+use lib.Dec.{T, eqb}
+use borrow.Author.Tests.{eq-eqb, ne-eqb, not-true, not-false}
+use Rattle.abelian.specs.Lists.{one}
+use Rattle.abelian.specs.Words.{longest}
+use Rattle.abelian.specs.Periods.{Pair, pair, inRange, isPeriod}
+use Rattle.abelian.specs.Periods
+use Rattle.abelian.specs.EndedLengths.{boardOf}
+use Rattle.abelian.specs.Trackers.{boardSize, entryAdded}
+use Rattle.abelian.proofs.Tests.{is-true}
+use Rattle.abelian.proofs.Pairs.{InRange, range-in}
+use Rattle.board.specs.Places.{placeOf, rowStart, entryAt}
+use Rattle.board.specs.Ending.{rowOpen}
+use Rattle.board.proofs.Rows.{row-end}
+use Rattle.board.proofs.EndedRows.{below, none-below, entry-untouched, next-below, kept-below, all-below, openBelow, open-below, ended-below, ended-kept, period-kept, open-ended}
+use borrow.Author.Needs.{needs}
+use Rattle.board.proofs.ending.end_row.Statement.{statement}
+use Rattle.board.proofs.ending.end_row.Tie as tie
+
+abbrev Inv-loop : tie.InvT-loop
+Inv-loop word counts period board₀ n start heads trials₀ h₀ board trials h = (h ≤ heads) × (trials ≤ h) × (trials ≡ length (openBelow board₀ (period .0) h)) × (board ≡ boardOf (below word (period .0) h board₀))
+
+abbrev μ-loop : tie.MeasureT-loop
+μ-loop word counts period board₀ n start heads trials₀ h₀ board trials h = heads - h
+
+row-start-requires : tie.Need-row-start-requires Inv-loop μ-loop
+row-start-requires c κs = omega (arith, c .before .pre .1 .1, c .before .pre .0 .short)
+
+row-heads-requires : tie.Need-row-heads-requires Inv-loop μ-loop
+row-heads-requires c κs = omega (arith, c .before .before .pre .1 .1, c .before .before .pre .0 .short)
+
+-- what the calls before the loop say, and that the array has a board's length
+module _ (c : tie.After-row-heads Inv-loop μ-loop) where
+  abbrev start : tie.Start Inv-loop μ-loop
+  start = c .before .before .before
+
+  abbrev word : List ℕ
+  word = start .args .word .now
+
+  abbrev p : ℕ
+  p = start .args .period .0
+
+  abbrev board : List ℕ
+  board = start .args .board .now
+
+  long : length board ≡ boardSize
+  long = start .pre .1 .0
+
+  begins : c .before .row-start .result ≡ rowStart p
+  begins = c .before .row-start .ensures
+
+  has : c .row-heads .result ≡ Periods.heads (length word) p
+  has = c .row-heads .ensures
+
+  on-board : rowStart p + Periods.heads (length word) p ≤ boardSize
+  on-board = row-end (length word) p (start .pre .1 .1 .0) (start .pre .1 .1 .1) (start .pre .0 .short)
+
+  -- the place of a head of the row
+  place-at : (h : ℕ) → c .before .row-start .result + h ≡ placeOf (pair h p)
+  unfolding placeOf
+  place-at h = omega (arith, begins)
+
+  -- a head of the row is in range
+  in-row : (h : ℕ) → h < Periods.heads (length word) p → InRange (length word) (pair h p)
+  unfolding Periods.heads
+  in-row h l = record { positive = start .pre .1 .1 .0; below = omega arith; fits = omega (arith, start .pre .1 .1 .1) }
+
+loop-holds : tie.Need-loop-holds Inv-loop μ-loop
+loop-holds c = (omega arith, omega arith, refl, none-below (word c) (p c) (board c) (long c))
+
+add-at : tie.Need-add-at Inv-loop μ-loop
+unfolding boardSize
+add-at c = omega (arith, on-board (c .before .before), begins (c .before .before), has (c .before .before), c .loop-test .taken)
+
+element-copy-out-if1 : tie.Need-element-copy-out-if1 Inv-loop μ-loop
+unfolding boardSize
+element-copy-out-if1 c = omega (arith, on-board (c .before .before), begins (c .before .before), has (c .before .before), c .loop-test .taken)
+
+add-trials : tie.Need-add-trials Inv-loop μ-loop
+add-trials c = search needs
+
+holds-requires : tie.Need-holds-requires Inv-loop μ-loop
+holds-requires c κs =
+    let i = c .before .before in
+    let r = i .before .before in
+    (start r .pre .0, range-in (length (word r)) (pair (i .before .loop .h) (p r)) (in-row r (i .before .loop .h) (omega (arith, has r, i .loop-test .taken))))
+
+cast-board : tie.Need-cast-board Inv-loop μ-loop
+unfolding longest
+cast-board c = omega (arith, start (c .before .before .before .before .before .before) .pre .0 .short)
+
+element-write-board : tie.Need-element-write-board Inv-loop μ-loop
+unfolding boardSize
+element-write-board c = let r = c .before .before .before .before .before .before in omega (arith, on-board r, begins r, has r, c .before .before .before .before .loop-test .taken)
+
+add-h : tie.Need-add-h Inv-loop μ-loop
+add-h c = search needs
+
+loop-less : tie.Need-loop-less Inv-loop μ-loop
+loop-less c = search needs
+
+loop-again : tie.Need-loop-again Inv-loop μ-loop
+loop-again c =
+    let i = c .before .before in
+    let r = i .before .before in
+    let h = i .before .loop .h in
+    let x = pair h (p r) in
+    let b = i .before .loop .board in
+    let less : h < Periods.heads (length (word r)) (p r) = omega (arith, has r, i .loop-test .taken) in
+    let range : InRange (length (word r)) x = in-row r h less in
+    let inside : T (inRange longest x) = range-in longest x (record { positive = range .positive; below = range .below; fits = omega (arith, range .fits, start r .pre .0 .short) }) in
+    let at : r .before .row-start .result + h ≡ placeOf x = place-at r h in
+    let entry : getD b (r .before .row-start .result + h) 0 ≡ entryAt (board r) x =
+    ap₂ (λ l k. getD l k 0) (i .before .loop .inv .3) at ∙ entry-untouched (word r) (p r) (board r) (long r) h inside in
+    let kept : entryAdded (word r) x (entryAt (board r) x) ≡ entryAt (board r) x → b ≡ boardOf (below (word r) (p r) (suc h) (board r)) =
+    λ e. i .before .loop .inv .3 ∙ kept-below (word r) (p r) (board r) (long r) h inside e in (
+      omega (arith, i .loop-test .taken),
+      ⊎-elim (λ w. omega (arith, w .4, i .before .loop .inv .1)) (⊎-elim (λ w. omega (arith, w .4, i .before .loop .inv .1)) (λ w. omega (arith, w .2, i .before .loop .inv .1))) (c .if1 .came),
+      rw add-one
+          (⊎-elim (λ w. omega (arith, w .4, i .before .loop .inv .2, open-below (board r) (p r) h (sym entry ∙ w .0 .taken)))
+          (⊎-elim (λ w. omega (arith, w .4, i .before .loop .inv .2, open-below (board r) (p r) h (sym entry ∙ w .0 .taken)))
+          (λ w. omega (arith, w .2, i .before .loop .inv .2, ended-below (board r) (p r) h (λ z. w .0 .left (entry ∙ z)))))
+          (c .if1 .came)),
+      rw add-one
+          (⊎-elim
+          (λ w. w .3
+          ∙ ap₂ (λ l k. set l k (length (word r))) (i .before .loop .inv .3) at
+          ∙ ap (set (boardOf (below (word r) (p r) h (board r))) (placeOf x))
+          (sym (open-ended (word r) x (entryAt (board r) x) (sym entry ∙ w .0 .taken) (is-true (inRange (length (word r)) x) (range-in (length (word r)) x range)) (sym (w .1 .ensures) ∙ not-true _ (w .2 .taken))))
+          ∙ next-below (word r) (p r) (board r) (long r) h inside)
+          (⊎-elim (λ w. w .3 ∙ kept (period-kept (word r) x (entryAt (board r) x) (sym (w .1 .ensures) ∙ not-false _ (w .2 .left))))
+          (λ w. w .1 ∙ kept (ended-kept (word r) x (entryAt (board r) x) (λ z. w .0 .left (entry ∙ z)))))
+          (c .if1 .came)),
+    )
+
+returns : tie.Need-returns Inv-loop μ-loop
+unfolding rowOpen Periods.row
+returns c =
+    let r = c .before .before in
+    let e : c .before .loop .h ≡ Periods.heads (length (word r)) (p r) = omega (arith, has r) in (
+      c .before .loop .inv .2 ∙ ap (λ (k : ℕ). length (openBelow (board r) (p r) k)) e,
+      c .before .loop .inv .3 ∙ ap (λ (k : ℕ). boardOf (below (word r) (p r) k (board r))) e ∙ all-below (word r) (p r) (board r) (long r),
+    )
+
+pub end-row-spec : {M : Type 1} → statement M
+end-row-spec =
+    tie.close
+    (tie.spec
+    Inv-loop
+    μ-loop
+    row-start-requires
+    row-heads-requires
+    loop-holds
+    add-at
+    element-copy-out-if1
+    add-trials
+    holds-requires
+    cast-board
+    element-write-board
+    add-h
+    loop-less
+    loop-again
+    returns)

@@ -1,0 +1,63 @@
+// Pairs are ended by a word: each entry that is 0 and in range is set to the word's length where its pair is no Abelian period. The
+// tracker's add and both listers go through a board in this way. For the crates above.
+use crate::row_heads;
+use crate::row_start;
+use abelian::BOARD;
+use abelian::Head;
+use abelian::LETTERS;
+use abelian::Period;
+use periods::holds;
+use words::ROWS;
+ghost use mathlib.Core.Path.{_≡_};
+ghost use Prim.Native.Nat.{_≤_};
+ghost use lib.ListN.{length};
+ghost use Rattle.abelian.specs.Trackers.{boardSize, openPairs};
+ghost use Rattle.words.specs.Prefixes.{Counted};
+ghost use Rattle.board.specs.Ending.{rowEnded, rowOpen, allEnded};
+
+// Ends the pairs of one period, and returns how many were tried: those in range whose entry was 0.
+fn end_row(
+    word: &[u8],
+    counts: &[[u8; LETTERS]; ROWS],
+    period: Period,
+    board: &mut [u8; BOARD],
+) -> usize
+    requires { ⌜ Counted (now word) (now counts) ⌝ }
+    requires { ⌜ length (now board) ≡ boardSize ⌝ }
+    requires { ⌜ (1 ≤ period .0) × (period .0 ≤ length (now word)) ⌝ }
+    ensures { λ r. ⌜ r ≡ length (rowOpen (length (now (word .entry))) (now (board .entry)) (period .0)) ⌝ }
+    ensures { λ _. ⌜ now (board .exit) ≡ rowEnded (now (word .entry)) (period .0) (now (board .entry)) ⌝ }
+{
+    let n = word.len();
+    let start = row_start(period);
+    let heads = row_heads(n, period);
+    let mut trials = 0;
+    let mut h = 0;
+    while h < heads {
+        let at = start + h;
+        if board[at] == 0 {
+            trials += 1;
+            if !holds(word, counts, Head(h), period) {
+                board[at] = n as u8;
+            }
+        }
+        h += 1;
+    }
+    trials
+}
+
+// Ends the pairs of every period, and returns how many were tried: the pairs in range for the word whose entry was 0.
+pub fn end_pairs(word: &[u8], counts: &[[u8; LETTERS]; ROWS], board: &mut [u8; BOARD]) -> usize
+    requires { ⌜ Counted (now word) (now counts) ⌝ }
+    requires { ⌜ length (now board) ≡ boardSize ⌝ }
+    ensures { λ r. ⌜ r ≡ length (openPairs (length (now (word .entry))) (now (board .entry))) ⌝ }
+    ensures { λ _. ⌜ now (board .exit) ≡ allEnded (now (word .entry)) (now (board .entry)) ⌝ }
+{
+    let mut trials = 0;
+    let mut p = 1;
+    while p <= word.len() {
+        trials += end_row(word, counts, Period(p), board);
+        p += 1;
+    }
+    trials
+}
