@@ -1,0 +1,91 @@
+-- Laws of listings: an accepted word's list, and what a board of zeros holds after its pairs have been ended.
+use mathlib.Core.Path.{_≡_, refl, sym, ap, ap₂, _∙_}
+use mathlib.Core.Logic.{⊎-elim}
+use mathlib.Core.Bool.{Bool, true, false, not, _&&_}
+use mathlib.Core.Option.{Option, none, some}
+use mathlib.Core.List.{List, [], _∷_, map}
+use Prim.Native.Nat.{ℕ, zero, suc, _≤_, _<_}
+use native.Mathlib.Omega.{arith}
+use lib.ListN.{length, getD, replicate, length-replicate, getD-replicate}
+use lib.Dec.{T, eqb, ltb}
+use borrow.Author.Tests.{ltb-true, ltb-false, eq-eqb, ne-eqb}
+use Rattle.abelian.specs.Lists.{pick, keep}
+use Rattle.abelian.specs.Words.{longest}
+use Rattle.abelian.specs.Periods.{Pair, inRange, pairs, isPeriod, periods}
+use Rattle.abelian.specs.Output.{periodWord}
+use Rattle.abelian.specs.Trials.{plainTrials}
+use Rattle.abelian.specs.EndedLengths.{boardOf}
+use Rattle.abelian.specs.Refusals.{wordRefusal}
+use Rattle.abelian.specs.Answers.{writing, unless}
+use Rattle.abelian.specs.Calls.{listing, periodWords, plainListing}
+use Rattle.abelian.specs.Trackers.{boardSize, openPairs, entries, entryAdded}
+use Rattle.abelian.proofs.Tests.{is-true, decided}
+use Rattle.abelian.proofs.Lists.{keep-agree}
+use Rattle.abelian.proofs.Pairs.{InRange, in-range, range-in, pairs-in-range}
+use Rattle.words.proofs.Refusals.{accepted-short, accepted-fits, accepted-length}
+use Rattle.board.specs.Places.{placeOf, entryAt}
+use Rattle.board.specs.Ending.{allEnded}
+use Rattle.board.proofs.Places.{place-below, boardOf-agree, entries-of, pairsWhere-boardOf, keep-in-range, board-of-entries, entries-boardOf}
+use Rattle.board.proofs.EndedRows.{period-kept, open-ended}
+use Rattle.listers.specs.OpenListing.{wordsListed, openListing}
+
+-- an accepted word's list is refused for length alone
+pub accepted-listing : (w out ws : List ℕ) (trials : ℕ) → wordRefusal w false 0 0 ≡ none → listing w out ws trials 0 0 ≡ wordsListed ws trials out
+unfolding listing wordsListed
+accepted-listing w out ws trials a =
+    ⊎-elim
+    (λ (l : ltb (length out) (length ws) ≡ true). rw (l, accepted-short w a (ltb-true (length out) (length ws) l)))
+    (λ (l : ltb (length out) (length ws) ≡ false). rw (l, accepted-fits w a (ltb-false (length out) (length ws) l)))
+    (decided (ltb (length out) (length ws)))
+
+-- ---- the open pairs of a board that is known by its entries
+
+pub open-of-entries : (n : ℕ) (f : Pair → ℕ) → n ≤ longest → openPairs n (boardOf f) ≡ keep (λ (x : Pair). eqb (f x) 0) (pairs n)
+unfolding openPairs
+open-of-entries n f l = pairsWhere-boardOf (λ (x : Pair) (e : ℕ). inRange n x && eqb e 0) f ∙ keep-in-range n (λ (x : Pair). eqb (f x) 0) l
+
+-- a board of zeros
+unfoldable pub zeros : List ℕ
+zeros = replicate boardSize 0
+
+pub zeros-board : zeros ≡ boardOf (λ (x : Pair). 0)
+unfolding zeros
+zeros-board =
+    board-of-entries zeros (length-replicate boardSize 0)
+    ∙ boardOf-agree (entryAt zeros) (λ (x : Pair). 0) (λ x t. getD-replicate boardSize (placeOf x) 0 0 (place-below x t))
+
+keep-all : (xs : List Pair) → keep (λ (x : Pair). true) xs ≡ xs
+keep-all [] = refl
+keep-all (x ∷ xs) = ap (λ (l : List Pair). x ∷ l) (keep-all xs)
+
+-- all pairs in range are open on it
+pub zeros-open : (n : ℕ) → n ≤ longest → openPairs n zeros ≡ pairs n
+zeros-open n l = ap (openPairs n) zeros-board ∙ open-of-entries n (λ (x : Pair). 0) l ∙ keep-all (pairs n)
+
+-- on a board of zeros a pair in range stays open exactly where it is an Abelian period
+open-period : (w : List ℕ) (x : Pair) → T (inRange (length w) x) → eqb (entryAdded w x 0) 0 ≡ isPeriod w x
+open-period w x t =
+    let r : InRange (length w) x = in-range (length w) x t in
+    ⊎-elim (λ (p : isPeriod w x ≡ true). rw (period-kept w x 0 p, p))
+    (λ (p : isPeriod w x ≡ false). rw (open-ended w x 0 refl (is-true (inRange (length w) x) t) p, p) (ne-eqb (length w) 0 (omega (arith, r .positive, r .fits))))
+    (decided (isPeriod w x))
+
+-- and after its pairs have been ended, the Abelian periods
+pub ended-periods : (w : List ℕ) → length w ≤ longest → openPairs (length w) (allEnded w zeros) ≡ periods w
+unfolding allEnded periods
+ended-periods w l =
+    ap (λ (b : List ℕ). openPairs (length w) (entries (entryAdded w) (pairs longest) b)) zeros-board
+    ∙ ap (openPairs (length w)) (entries-boardOf (entryAdded w) (λ (x : Pair). 0))
+    ∙ open-of-entries (length w) (λ (x : Pair). entryAdded w x 0) l
+    ∙ keep-agree (λ (x : Pair). eqb (entryAdded w x 0) 0) (isPeriod w) (pairs (length w)) (λ x m. open-period w x (pairs-in-range (length w) x m))
+
+-- ---- the plain lister's answer
+
+pub plain-listed : (w out board : List ℕ) (trials : ℕ) → wordRefusal w false 0 0 ≡ none → board ≡ allEnded w zeros → trials ≡ length (openPairs (length w) zeros)
+  → openListing (length w) board trials out ≡ plainListing w out
+unfolding openListing plainListing periodWords plainTrials
+plain-listed w out board trials a e f =
+    let l : length w ≤ longest = accepted-length w a in
+    ap₂ (λ b k. wordsListed (map periodWord (openPairs (length w) b)) k out) e f
+    ∙ ap₂ (λ xs ys. wordsListed (map periodWord xs) (length ys) out) (ended-periods w l) (zeros-open (length w) l)
+    ∙ sym (accepted-listing w out (map periodWord (periods w)) (length (pairs (length w))) a)

@@ -1,0 +1,45 @@
+// The two listers of Abelian periods. Both go through a board of the pairs in range and write those that are left open; they differ in
+// the pairs that they try.
+use abelian::BOARD;
+use abelian::Listed;
+use abelian::Outcome;
+use abelian::Refusal;
+use board::count_open;
+use board::ending::end_pairs;
+use board::write_open;
+use words::check_word;
+use words::prefix_counts;
+ghost use mathlib.Core.Path.{_≡_};
+ghost use Prim.Native.Nat.{_≤_};
+ghost use Rattle.abelian.specs.Words.{longest};
+ghost use Rattle.abelian.specs.Answers.{answeredListed};
+ghost use Rattle.abelian.specs.Calls.{plainListing};
+ghost use Rattle.listers.specs.OpenListing.{openListing};
+
+// Lists the open pairs of a board that are in range for n. Counted before the first word is written, so that a refusal leaves the slice
+// as it came.
+fn list_open(board: &[u8; BOARD], n: usize, trials: usize, out: &mut [u32]) -> Listed
+    requires { ⌜ n ≤ longest ⌝ }
+    ensures { λ r. ⌜ answeredListed r (now (out .exit)) ≡ openListing n (now (board .entry)) trials (now (out .entry)) ⌝ }
+{
+    let words = count_open(board, n);
+    if out.len() < words {
+        return Listed::Refused(Refusal::SliceTooShort(words));
+    }
+    write_open(board, n, out);
+    Listed::Written { words, trials }
+}
+
+// Lists all Abelian periods of the word, and tries each pair in range: on a board of zeros all of them are open, and those that are no
+// Abelian period are ended.
+pub fn list_plain(word: &[u8], out: &mut [u32]) -> Listed
+    ensures { λ r. ⌜ answeredListed r (now (out .exit)) ≡ plainListing (now (word .entry)) (now (out .entry)) ⌝ }
+{
+    if let Outcome::Refused(refusal) = check_word(word) {
+        return Listed::Refused(refusal);
+    }
+    let counts = prefix_counts(word);
+    let mut board = [0u8; BOARD];
+    let trials = end_pairs(word, &counts, &mut board);
+    list_open(&board, word.len(), trials, out)
+}
