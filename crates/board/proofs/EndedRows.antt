@@ -1,4 +1,4 @@
--- Laws of ended pairs: a row gone through head by head, and a board row by row.
+-- Laws of a board whose entries are made anew, a row head by head and the board row by row; and of the entries that the tracker's add makes.
 use mathlib.Core.Path.{_≡_, refl, sym, ap, ap₂, subst, _∙_}
 use mathlib.Core.Logic.{_⊎_, inl, inr, ⊎-elim, _≢_}
 use mathlib.Core.Bool.{Bool, true, false, not, _&&_, and-false}
@@ -19,7 +19,7 @@ use Rattle.abelian.proofs.Lists.{keep-append, keep-agree, upFrom-last}
 use Rattle.abelian.proofs.Pairs.{InRange, in-range, range-in, mem-row}
 use Rattle.periods.proofs.PairCount.{length-row}
 use Rattle.board.specs.Places.{placeOf, entryAt, isOpen}
-use Rattle.board.specs.Ending.{entryInRow, rowEnded, rowOpen, allEnded}
+use Rattle.board.specs.Ending.{entryInRow, rowEnded, rowOpen}
 use Rattle.board.proofs.Places.{boardOf-at, boardOf-agree, board-of-entries, entries-of, entries-boardOf, set-boardOf, place-injective}
 use Rattle.board.proofs.Rows.{openUpTo, openUpTo-more, heads-le}
 
@@ -44,34 +44,34 @@ open-ended w x e z r p = rw (z, r, p)
 
 -- ---- a row, head by head
 
--- the row of p gone through up to the head h
-abbrev pub below : List ℕ → ℕ → ℕ → List ℕ → Pair → ℕ
-below w p h board x = pick (eqb (x .period) p && ltb (x .head) h) (entryAdded w x (entryAt board x)) (entryAt board x)
+-- the row of p gone through up to the head h, each entry being made anew by f
+abbrev pub below : (Pair → ℕ → ℕ) → ℕ → ℕ → List ℕ → Pair → ℕ
+below f p h board x = pick (eqb (x .period) p && ltb (x .head) h) (f x (entryAt board x)) (entryAt board x)
 
 -- a head behind the row's last is out of range
 beyond-heads : (n p : ℕ) (x : Pair) → x .period ≡ p → heads n p ≤ x .head → inRange n x ≡ false
 unfolding heads
 beyond-heads n p x e l = is-false (inRange n x) (λ t. let r : InRange n x = in-range n x t in omega (arith, r .below, r .fits))
 
-module _ (w : List ℕ) (p : ℕ) (board : List ℕ) (long : length board ≡ boardSize) where
-  pub none-below : board ≡ boardOf (below w p 0 board)
+module _ (f : Pair → ℕ → ℕ) (p : ℕ) (board : List ℕ) (long : length board ≡ boardSize) where
+  pub none-below : board ≡ boardOf (below f p 0 board)
   none-below =
       board-of-entries board long
-      ∙ boardOf-agree (entryAt board) (below w p 0 board) (λ x s. rw (le-ltb (x .head) 0 (omega arith), and-false))
+      ∙ boardOf-agree (entryAt board) (below f p 0 board) (λ x s. rw (le-ltb (x .head) 0 (omega arith), and-false))
 
   module _ (h : ℕ) (i : T (inRange longest (pair h p))) where
     -- the pair's entry has not been touched yet
-    pub entry-untouched : entryAt (boardOf (below w p h board)) (pair h p) ≡ entryAt board (pair h p)
-    entry-untouched = boardOf-at (below w p h board) (pair h p) i ∙ rw (le-ltb h h (omega arith), and-false)
+    pub entry-untouched : entryAt (boardOf (below f p h board)) (pair h p) ≡ entryAt board (pair h p)
+    entry-untouched = boardOf-at (below f p h board) (pair h p) i ∙ rw (le-ltb h h (omega arith), and-false)
 
     -- with its new entry stored, the row is gone through up to the next head
-    pub next-below : set (boardOf (below w p h board)) (placeOf (pair h p)) (entryAdded w (pair h p) (entryAt board (pair h p))) ≡ boardOf (below w p (suc h) board)
+    pub next-below : set (boardOf (below f p h board)) (placeOf (pair h p)) (f (pair h p) (entryAt board (pair h p))) ≡ boardOf (below f p (suc h) board)
     next-below =
-        set-boardOf (below w p h board) (pair h p) (entryAdded w (pair h p) (entryAt board (pair h p))) i
-        ∙ boardOf-agree _ (below w p (suc h) board) agree
+        set-boardOf (below f p h board) (pair h p) (f (pair h p) (entryAt board (pair h p))) i
+        ∙ boardOf-agree _ (below f p (suc h) board) agree
       where
         agree : (x : Pair) → T (inRange longest x)
-            → pick (eqb (placeOf x) (placeOf (pair h p))) (entryAdded w (pair h p) (entryAt board (pair h p))) (below w p h board x) ≡ below w p (suc h) board x
+            → pick (eqb (placeOf x) (placeOf (pair h p))) (f (pair h p) (entryAt board (pair h p))) (below f p h board x) ≡ below f p (suc h) board x
         agree x s =
             ⊎-elim
             (λ (e : eqb (placeOf x) (placeOf (pair h p)) ≡ true).
@@ -80,7 +80,7 @@ module _ (w : List ℕ) (p : ℕ) (board : List ℕ) (long : length board ≡ bo
             (λ (e : eqb (placeOf x) (placeOf (pair h p)) ≡ false). rw e (other x (eqb-false (placeOf x) (placeOf (pair h p)) e)))
             (decided (eqb (placeOf x) (placeOf (pair h p))))
           where
-            other : (y : Pair) → placeOf y ≢ placeOf (pair h p) → below w p h board y ≡ below w p (suc h) board y
+            other : (y : Pair) → placeOf y ≢ placeOf (pair h p) → below f p h board y ≡ below f p (suc h) board y
             other y n =
                 ⊎-elim
                 (λ (e : eqb (y .period) p ≡ true).
@@ -95,26 +95,26 @@ module _ (w : List ℕ) (p : ℕ) (board : List ℕ) (long : length board ≡ bo
                 (decided (eqb (y .period) p))
 
     -- an entry that stays
-    pub kept-below : entryAdded w (pair h p) (entryAt board (pair h p)) ≡ entryAt board (pair h p) → boardOf (below w p h board) ≡ boardOf (below w p (suc h) board)
+    pub kept-below : f (pair h p) (entryAt board (pair h p)) ≡ entryAt board (pair h p) → boardOf (below f p h board) ≡ boardOf (below f p (suc h) board)
     kept-below e =
         let at = placeOf (pair h p) in
-        sym (set-getD (boardOf (below w p h board)) at 0) ∙ ap (set (boardOf (below w p h board)) at) (entry-untouched ∙ sym e) ∙ next-below
+        sym (set-getD (boardOf (below f p h board)) at 0) ∙ ap (set (boardOf (below f p h board)) at) (entry-untouched ∙ sym e) ∙ next-below
 
-  -- the whole row
-  pub all-below : boardOf (below w p (heads (length w) p) board) ≡ rowEnded w p board
-  unfolding rowEnded entryInRow
-  all-below =
-      boardOf-agree (below w p (heads (length w) p) board) (λ (x : Pair). entryInRow w p x (entryAt board x)) agree
-      ∙ sym (entries-of (entryInRow w p) board long)
+  -- the whole row, where f keeps what is not in range for n
+  pub all-below : (n : ℕ) → ((x : Pair) (e : ℕ) → inRange n x ≡ false → f x e ≡ e) → boardOf (below f p (heads n p) board) ≡ entries (entryInRow f p) (pairs longest) board
+  unfolding entryInRow
+  all-below n kept =
+      boardOf-agree (below f p (heads n p) board) (λ (x : Pair). entryInRow f p x (entryAt board x)) agree
+      ∙ sym (entries-of (entryInRow f p) board long)
     where
-      agree : (x : Pair) → T (inRange longest x) → below w p (heads (length w) p) board x ≡ entryInRow w p x (entryAt board x)
+      agree : (x : Pair) → T (inRange longest x) → below f p (heads n p) board x ≡ entryInRow f p x (entryAt board x)
       agree x s =
           ⊎-elim
           (λ (e : eqb (x .period) p ≡ true).
-          ⊎-elim (λ (l : ltb (x .head) (heads (length w) p) ≡ true). rw (e, l))
-          (λ (l : ltb (x .head) (heads (length w) p) ≡ false).
-          rw (e, l) (sym (out-of-range-kept w x (entryAt board x) (beyond-heads (length w) p x (eqb-true (x .period) p e) (ltb-false (x .head) (heads (length w) p) l)))))
-          (decided (ltb (x .head) (heads (length w) p))))
+          ⊎-elim (λ (l : ltb (x .head) (heads n p) ≡ true). rw (e, l))
+          (λ (l : ltb (x .head) (heads n p) ≡ false).
+          rw (e, l) (sym (kept x (entryAt board x) (beyond-heads n p x (eqb-true (x .period) p e) (ltb-false (x .head) (heads n p) l)))))
+          (decided (ltb (x .head) (heads n p))))
           (λ (e : eqb (x .period) p ≡ false). rw e)
           (decided (eqb (x .period) p))
 
@@ -148,23 +148,23 @@ ended-below board p h n = openBelow-more board p h ∙ ap (λ (b : Bool). length
 -- ---- a board, row by row
 
 -- the rows up to m gone through
-abbrev pub upTo : List ℕ → ℕ → List ℕ → Pair → ℕ
-upTo w m board x = pick (leb (x .period) m) (entryAdded w x (entryAt board x)) (entryAt board x)
+abbrev pub upTo : (Pair → ℕ → ℕ) → ℕ → List ℕ → Pair → ℕ
+upTo f m board x = pick (leb (x .period) m) (f x (entryAt board x)) (entryAt board x)
 
-module _ (w : List ℕ) (board : List ℕ) (long : length board ≡ boardSize) where
-  pub none-upTo : board ≡ boardOf (upTo w 0 board)
+module _ (f : Pair → ℕ → ℕ) (board : List ℕ) (long : length board ≡ boardSize) where
+  pub none-upTo : board ≡ boardOf (upTo f 0 board)
   none-upTo =
       board-of-entries board long
-      ∙ boardOf-agree (entryAt board) (upTo w 0 board) (λ x s. let r : InRange longest x = in-range longest x s in rw (lt-leb (x .period) 0 (r .positive)))
+      ∙ boardOf-agree (entryAt board) (upTo f 0 board) (λ x s. let r : InRange longest x = in-range longest x s in rw (lt-leb (x .period) 0 (r .positive)))
 
   -- one row more
-  pub next-upTo : (m : ℕ) → rowEnded w (suc m) (boardOf (upTo w m board)) ≡ boardOf (upTo w (suc m) board)
-  unfolding rowEnded entryInRow
+  pub next-upTo : (m : ℕ) → entries (entryInRow f (suc m)) (pairs longest) (boardOf (upTo f m board)) ≡ boardOf (upTo f (suc m) board)
+  unfolding entryInRow
   next-upTo m =
-      entries-boardOf (entryInRow w (suc m)) (upTo w m board)
-      ∙ boardOf-agree (λ (x : Pair). entryInRow w (suc m) x (upTo w m board x)) (upTo w (suc m) board) agree
+      entries-boardOf (entryInRow f (suc m)) (upTo f m board)
+      ∙ boardOf-agree (λ (x : Pair). entryInRow f (suc m) x (upTo f m board x)) (upTo f (suc m) board) agree
     where
-      agree : (x : Pair) → T (inRange longest x) → entryInRow w (suc m) x (upTo w m board x) ≡ upTo w (suc m) board x
+      agree : (x : Pair) → T (inRange longest x) → entryInRow f (suc m) x (upTo f m board x) ≡ upTo f (suc m) board x
       agree x s =
           ⊎-elim
           (λ (e : eqb (x .period) (suc m) ≡ true).
@@ -178,31 +178,29 @@ module _ (w : List ℕ) (board : List ℕ) (long : length board ≡ boardSize) w
           (decided (eqb (x .period) (suc m)))
 
   -- a row that has not been gone through yet is open as it was
-  pub row-untouched : (m : ℕ) → length w ≤ longest → rowOpen (length w) (boardOf (upTo w m board)) (suc m) ≡ keep (isOpen board) (row (length w) (suc m))
+  pub row-untouched : (m n : ℕ) → n ≤ longest → rowOpen n (boardOf (upTo f m board)) (suc m) ≡ keep (isOpen board) (row n (suc m))
   unfolding rowOpen
-  row-untouched m u =
-      keep-agree (isOpen (boardOf (upTo w m board))) (isOpen board) (row (length w) (suc m))
+  row-untouched m n u =
+      keep-agree (isOpen (boardOf (upTo f m board))) (isOpen board) (row n (suc m))
       (λ x i.
-      let r : InRange (length w) x × (x .period ≡ suc m) = mem-row (length w) (suc m) (omega arith) i in
+      let r : InRange n x × (x .period ≡ suc m) = mem-row n (suc m) (omega arith) i in
       let t : T (inRange longest x) = range-in longest x (record { positive = r .0 .positive; below = r .0 .below; fits = omega (arith, r .0 .fits) }) in
       let later : leb (x .period) m ≡ false = lt-leb (x .period) m (omega (arith, r .1)) in
-      let e : upTo w m board x ≡ entryAt board x = rw later in
-      ap (λ (k : ℕ). eqb k 0) (boardOf-at (upTo w m board) x t ∙ e))
+      let e : upTo f m board x ≡ entryAt board x = rw later in
+      ap (λ (k : ℕ). eqb k 0) (boardOf-at (upTo f m board) x t ∙ e))
 
-  -- all rows
-  pub all-upTo : boardOf (upTo w (length w) board) ≡ allEnded w board
-  unfolding allEnded
-  all-upTo =
-      boardOf-agree (upTo w (length w) board) (λ (x : Pair). entryAdded w x (entryAt board x)) agree
-      ∙ sym (entries-of (entryAdded w) board long)
+  -- all rows, where f keeps what is not in range for n
+  pub all-upTo : (n : ℕ) → ((x : Pair) (e : ℕ) → inRange n x ≡ false → f x e ≡ e) → boardOf (upTo f n board) ≡ entries f (pairs longest) board
+  all-upTo n kept =
+      boardOf-agree (upTo f n board) (λ (x : Pair). f x (entryAt board x)) agree ∙ sym (entries-of f board long)
     where
-      agree : (x : Pair) → T (inRange longest x) → upTo w (length w) board x ≡ entryAdded w x (entryAt board x)
+      agree : (x : Pair) → T (inRange longest x) → upTo f n board x ≡ f x (entryAt board x)
       agree x s =
-          ⊎-elim (λ (l : leb (x .period) (length w) ≡ true). rw l)
-          (λ (l : leb (x .period) (length w) ≡ false).
-          rw l (sym (out-of-range-kept w x (entryAt board x)
-          (is-false (inRange (length w) x) (λ t. let r : InRange (length w) x = in-range (length w) x t in let k : length w < x .period = leb-false (x .period) (length w) l in omega (arith, r .fits))))))
-          (decided (leb (x .period) (length w)))
+          ⊎-elim (λ (l : leb (x .period) n ≡ true). rw l)
+          (λ (l : leb (x .period) n ≡ false).
+          rw l (sym (kept x (entryAt board x)
+          (is-false (inRange n x) (λ t. let r : InRange n x = in-range n x t in let k : n < x .period = leb-false (x .period) n l in omega (arith, r .fits))))))
+          (decided (leb (x .period) n))
 
 -- the rows below p have been gone through: how many pairs were tried, and what is left
 pub record Gone (w old board : List ℕ) (trials p : ℕ) : Type 0 where
@@ -210,7 +208,7 @@ pub record Gone (w old board : List ℕ) (trials p : ℕ) : Type 0 where
   pub to : p ≤ suc (length w)
   pub few : trials ≤ (p - 1) * longest
   pub counted : trials ≡ length (openUpTo (length w) old (p - 1))
-  pub ended : board ≡ boardOf (upTo w (p - 1) old)
+  pub ended : board ≡ boardOf (upTo (entryAdded w) (p - 1) old)
 
 length-keep : (f : Pair → Bool) (xs : List Pair) → length (keep f xs) ≤ length xs
 length-keep f [] = omega arith
@@ -226,7 +224,7 @@ unfolding rowOpen
 few-in-row w board p l u = omega (arith, length-keep (isOpen board) (row (length w) p), length-row (length w) p, heads-le (length w) p)
 
 pub none-gone : (w old : List ℕ) → length old ≡ boardSize → Gone w old old 0 1
-none-gone w old long = record { from = omega arith; to = omega arith; few = omega arith; counted = refl; ended = none-upTo w old long }
+none-gone w old long = record { from = omega arith; to = omega arith; few = omega arith; counted = refl; ended = none-upTo (entryAdded w) old long }
 
 few-more : (trials r m : ℕ) → trials ≤ (suc m - 1) * longest → r ≤ longest → trials + r ≤ (suc m + 1 - 1) * longest
 unfolding longest
@@ -234,12 +232,13 @@ few-more trials r m f g = omega arith
 
 pub next-gone : (w old board board′ : List ℕ) (trials r p : ℕ) → length old ≡ boardSize → length w ≤ longest → p ≤ length w → Gone w old board trials p
     → r ≡ length (rowOpen (length w) board p) → board′ ≡ rowEnded w p board → Gone w old board′ (trials + r) (p + 1)
+unfolding rowEnded
 next-gone w old board board′ trials r zero long u l g e f = absurd (omega (arith, g .from))
 next-gone w old board board′ trials r (suc m) long u l g e f =
     let d : suc m - 1 ≡ m = omega arith in
     let d′ : suc m + 1 - 1 ≡ suc m = omega arith in
-    let now : board ≡ boardOf (upTo w m old) = rw d at (g .ended) in
-    let tried : r ≡ length (keep (isOpen old) (row (length w) (suc m))) = e ∙ ap (λ (b : List ℕ). length (rowOpen (length w) b (suc m))) now ∙ ap length (row-untouched w old long m u) in
+    let now : board ≡ boardOf (upTo (entryAdded w) m old) = rw d at (g .ended) in
+    let tried : r ≡ length (keep (isOpen old) (row (length w) (suc m))) = e ∙ ap (λ (b : List ℕ). length (rowOpen (length w) b (suc m))) now ∙ ap length (row-untouched (entryAdded w) old long m (length w) u) in
     let more : length (openUpTo (length w) old (suc m)) ≡ length (openUpTo (length w) old m) + length (keep (isOpen old) (row (length w) (suc m))) =
     ap length (openUpTo-more (length w) old (suc m) (omega arith)) ∙ length-append (openUpTo (length w) old (suc m - 1)) (keep (isOpen old) (row (length w) (suc m)))
     ∙ ap (λ (k : ℕ). length (openUpTo (length w) old k) + length (keep (isOpen old) (row (length w) (suc m)))) d in
@@ -248,5 +247,5 @@ next-gone w old board board′ trials r (suc m) long u l g e f =
       to = omega arith;
       few = few-more trials r m (g .few) (omega (arith, e, few-in-row w board (suc m) l u));
       counted = rw d′ (omega (arith, tried, more, rw d at (g .counted)));
-      ended = rw d′ (f ∙ ap (rowEnded w (suc m)) now ∙ next-upTo w old long m);
+      ended = rw d′ (f ∙ ap (rowEnded w (suc m)) now ∙ next-upTo (entryAdded w) old long m);
     }

@@ -9,13 +9,13 @@ use Rattle.abelian.specs.Periods.{Pair, row, pairs}
 use Rattle.abelian.specs.Trackers.{entries, entryAdded}
 use Rattle.board.specs.Places.{isOpen}
 
--- the entry of a pair after the row of the period p has been gone through: that of the tracker's add in this row, and else as it was
-unfoldable pub entryInRow : List ℕ → ℕ → Pair → ℕ → ℕ
-entryInRow w p x e = pick (eqb (x .period) p) (entryAdded w x e) e
+-- the entry of a pair after the row of the period p has been gone through: made anew in this row, and else as it was
+unfoldable pub entryInRow : (Pair → ℕ → ℕ) → ℕ → Pair → ℕ → ℕ
+entryInRow f p x e = pick (eqb (x .period) p) (f x e) e
 
--- a board after the row has been gone through
+-- a board after the row of the period p has been gone through as by the tracker's add
 unfoldable pub rowEnded : List ℕ → ℕ → List ℕ → List ℕ
-rowEnded w p board = entries (entryInRow w p) (pairs longest) board
+rowEnded w p board = entries (entryInRow (entryAdded w) p) (pairs longest) board
 
 -- the pairs of the row, in range for n, whose entry is 0
 unfoldable pub rowOpen : ℕ → List ℕ → ℕ → List Pair

@@ -31,19 +31,19 @@ fn end_row(
     let n = word.len();
     let start = row_start(period);
     let heads = row_heads(n, period);
-    let mut trials = 0;
+    let mut tried = 0;
     let mut h = 0;
     while h < heads {
         let at = start + h;
         if board[at] == 0 {
-            trials += 1;
+            tried += 1;
             if !holds(word, counts, Head(h), period) {
                 board[at] = n as u8;
             }
         }
         h += 1;
     }
-    trials
+    tried
 }
 
 // Ends the pairs of every period, and returns how many were tried: the pairs in range for the word whose entry was 0.

@@ -116,11 +116,11 @@ pub fn write_open(board: &[u8; BOARD], n: usize, out: &mut [u32])
 {
     let entries = &board[..];
     let mut at = 0;
-    let mut p = 1;
-    while p <= n {
-        let start = row_start(Period(p));
-        let end = start + row_heads(n, Period(p));
-        at = write_row(&entries[start..end], Period(p), out, at);
-        p += 1;
+    let mut row = 1;
+    while row <= n {
+        let start = row_start(Period(row));
+        let end = start + row_heads(n, Period(row));
+        at = write_row(&entries[start..end], Period(row), out, at);
+        row += 1;
     }
 }

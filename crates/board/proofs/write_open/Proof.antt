@@ -20,10 +20,10 @@ use Rattle.board.proofs.write_open.Statement.{statement}
 use Rattle.board.proofs.write_open.Tie as tie
 
 abbrev Inv-loop : tie.InvT-loop
-Inv-loop board n out₀ entries at₀ p₀ out at p = (1 ≤ p) × (p ≤ suc n) × (at ≡ length (openUpTo n board (p - 1))) × (out ≡ sets out₀ 0 (map periodWord (openUpTo n board (p - 1))))
+Inv-loop board n out₀ entries at₀ row₀ out at row = (1 ≤ row) × (row ≤ suc n) × (at ≡ length (openUpTo n board (row - 1))) × (out ≡ sets out₀ 0 (map periodWord (openUpTo n board (row - 1))))
 
 abbrev μ-loop : tie.MeasureT-loop
-μ-loop board n out₀ entries at₀ p₀ out at p = suc n - p
+μ-loop board n out₀ entries at₀ row₀ out at row = suc n - row
 
 loop-holds : tie.Need-loop-holds Inv-loop μ-loop
 loop-holds c = (omega arith, omega arith, refl, refl)
@@ -49,7 +49,7 @@ module _ (c : tie.After-row-heads Inv-loop μ-loop) where
   board = start .args .board .now
 
   abbrev p : ℕ
-  p = at-loop .loop .p
+  p = at-loop .loop .row
 
   on-board : rowStart p + heads n p ≤ boardSize
   on-board = row-end n p (at-loop .loop .inv .0) (c .before .before .loop-test .taken) (start .pre .0)
@@ -101,9 +101,9 @@ write-row-requires c κs =
       omega (arith, ap (count 0) (lent r), row-open r, openUpTo-rises (n r) (board r) taken, ap length (openUpTo-all (n r) (board r) (start r .pre .0) (fits r)), start r .pre .1, same-places r, at-loop r .loop .inv .2),
     )
 
-add-p : tie.Need-add-p Inv-loop μ-loop
+add-row : tie.Need-add-row Inv-loop μ-loop
 unfolding longest
-add-p c = let r = c .before .before .before .before .before in omega (arith, r .before .before .loop-test .taken, start r .pre .0)
+add-row c = let r = c .before .before .before .before .before in omega (arith, r .before .before .loop-test .taken, start r .pre .0)
 
 loop-less : tie.Need-loop-less Inv-loop μ-loop
 loop-less c = let r = c .before .before .before .before .before in omega (arith, r .before .before .loop-test .taken)
@@ -122,7 +122,7 @@ loop-again c =
 same-length : tie.Need-same-length Inv-loop μ-loop
 same-length c =
     let t = c .before .before .before .before in
-    ap length (c .before .loop .inv .3) ∙ length-sets (t .args .out .now) 0 (map periodWord (openUpTo (t .args .n) (t .args .board .now) (c .before .loop .p - 1)))
+    ap length (c .before .loop .inv .3) ∙ length-sets (t .args .out .now) 0 (map periodWord (openUpTo (t .args .n) (t .args .board .now) (c .before .loop .row - 1)))
 
 returns : tie.Need-returns Inv-loop μ-loop
 unfolding boardSize fill
@@ -132,8 +132,8 @@ returns c =
     let board = t .args .board .now in
     let out = t .args .out .now in
     let words = map periodWord (openPairs n board) in
-    let e : c .before .loop .p - 1 ≡ n = omega arith in
-    let all : openUpTo n board (c .before .loop .p - 1) ≡ openPairs n board = ap (openUpTo n board) e ∙ openUpTo-all n board (t .pre .0) (omega (arith, t .good)) in
+    let e : c .before .loop .row - 1 ≡ n = omega arith in
+    let all : openUpTo n board (c .before .loop .row - 1) ≡ openPairs n board = ap (openUpTo n board) e ∙ openUpTo-all n board (t .pre .0) (omega (arith, t .good)) in
     c .before .loop .inv .3
     ∙ ap (λ (xs : List Pair). sets out 0 (map periodWord xs)) all
     ∙ sets-eq words out 0 (omega (arith, length-map (openPairs n board) periodWord, t .pre .1))
@@ -153,7 +153,7 @@ write-open-spec =
     part-write-row-start
     part-write-row-end
     write-row-requires
-    add-p
+    add-row
     loop-less
     loop-again
     same-length

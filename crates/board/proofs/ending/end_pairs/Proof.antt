@@ -6,10 +6,11 @@ use native.Mathlib.Omega.{arith}
 use lib.ListN.{length}
 use Rattle.abelian.specs.Words.{longest}
 use Rattle.abelian.specs.EndedLengths.{boardOf}
-use Rattle.abelian.specs.Trackers.{boardSize}
+use Rattle.abelian.specs.Trackers.{boardSize, entryAdded}
+use Rattle.board.specs.Ending.{allEnded}
 use Rattle.board.proofs.Places.{length-boardOf}
 use Rattle.board.proofs.Rows.{openUpTo, openUpTo-all}
-use Rattle.board.proofs.EndedRows.{upTo, all-upTo, Gone, none-gone, next-gone, few-in-row}
+use Rattle.board.proofs.EndedRows.{out-of-range-kept, upTo, all-upTo, Gone, none-gone, next-gone, few-in-row}
 use borrow.Author.Needs.{needs}
 use Rattle.board.proofs.ending.end_pairs.Statement.{statement}
 use Rattle.board.proofs.ending.end_pairs.Tie as tie
@@ -51,6 +52,7 @@ loop-again c =
     (start .pre .1) (start .pre .0 .short) (i .loop-test .taken) (i .before .loop .inv) (c .end-row .ensures .0) (c .end-row .ensures .1)
 
 returns : tie.Need-returns Inv-loop μ-loop
+unfolding allEnded
 returns c =
     let start = c .before .before .before in
     let w = start .args .word .now in
@@ -58,7 +60,7 @@ returns c =
     let g = c .before .loop .inv in
     let e : c .before .loop .p - 1 ≡ length w = omega (arith, g .from, g .to) in (
       g .counted ∙ ap (λ (m : ℕ). length (openUpTo (length w) old m)) e ∙ ap length (openUpTo-all (length w) old (start .pre .0 .short) (start .pre .1)),
-      g .ended ∙ ap (λ (m : ℕ). boardOf (upTo w m old)) e ∙ all-upTo w old (start .pre .1),
+      g .ended ∙ ap (λ (m : ℕ). boardOf (upTo (entryAdded w) m old)) e ∙ all-upTo (entryAdded w) old (start .pre .1) (length w) (out-of-range-kept w),
     )
 
 pub end-pairs-spec : {M : Type 1} → statement M

@@ -19,18 +19,18 @@ use Rattle.abelian.specs.Trackers.{boardSize, entryAdded}
 use Rattle.abelian.proofs.Tests.{is-true}
 use Rattle.abelian.proofs.Pairs.{InRange, range-in}
 use Rattle.board.specs.Places.{placeOf, rowStart, entryAt}
-use Rattle.board.specs.Ending.{rowOpen}
+use Rattle.board.specs.Ending.{rowOpen, rowEnded}
 use Rattle.board.proofs.Rows.{row-end}
-use Rattle.board.proofs.EndedRows.{below, none-below, entry-untouched, next-below, kept-below, all-below, openBelow, open-below, ended-below, ended-kept, period-kept, open-ended}
+use Rattle.board.proofs.EndedRows.{below, none-below, entry-untouched, next-below, kept-below, all-below, openBelow, open-below, ended-below, out-of-range-kept, ended-kept, period-kept, open-ended}
 use borrow.Author.Needs.{needs}
 use Rattle.board.proofs.ending.end_row.Statement.{statement}
 use Rattle.board.proofs.ending.end_row.Tie as tie
 
 abbrev Inv-loop : tie.InvT-loop
-Inv-loop word counts period board₀ n start heads trials₀ h₀ board trials h = (h ≤ heads) × (trials ≤ h) × (trials ≡ length (openBelow board₀ (period .0) h)) × (board ≡ boardOf (below word (period .0) h board₀))
+Inv-loop word counts period board₀ n start heads tried₀ h₀ board tried h = (h ≤ heads) × (tried ≤ h) × (tried ≡ length (openBelow board₀ (period .0) h)) × (board ≡ boardOf (below (entryAdded word) (period .0) h board₀))
 
 abbrev μ-loop : tie.MeasureT-loop
-μ-loop word counts period board₀ n start heads trials₀ h₀ board trials h = heads - h
+μ-loop word counts period board₀ n start heads tried₀ h₀ board tried h = heads - h
 
 row-start-requires : tie.Need-row-start-requires Inv-loop μ-loop
 row-start-requires c κs = omega (arith, c .before .pre .1 .1, c .before .pre .0 .short)
@@ -75,7 +75,7 @@ module _ (c : tie.After-row-heads Inv-loop μ-loop) where
   in-row h l = record { positive = start .pre .1 .1 .0; below = omega arith; fits = omega (arith, start .pre .1 .1 .1) }
 
 loop-holds : tie.Need-loop-holds Inv-loop μ-loop
-loop-holds c = (omega arith, omega arith, refl, none-below (word c) (p c) (board c) (long c))
+loop-holds c = (omega arith, omega arith, refl, none-below (entryAdded (word c)) (p c) (board c) (long c))
 
 add-at : tie.Need-add-at Inv-loop μ-loop
 unfolding boardSize
@@ -85,8 +85,8 @@ element-copy-out-if1 : tie.Need-element-copy-out-if1 Inv-loop μ-loop
 unfolding boardSize
 element-copy-out-if1 c = omega (arith, on-board (c .before .before), begins (c .before .before), has (c .before .before), c .loop-test .taken)
 
-add-trials : tie.Need-add-trials Inv-loop μ-loop
-add-trials c = search needs
+add-tried : tie.Need-add-tried Inv-loop μ-loop
+add-tried c = search needs
 
 holds-requires : tie.Need-holds-requires Inv-loop μ-loop
 holds-requires c κs =
@@ -120,9 +120,9 @@ loop-again c =
     let inside : T (inRange longest x) = range-in longest x (record { positive = range .positive; below = range .below; fits = omega (arith, range .fits, start r .pre .0 .short) }) in
     let at : r .before .row-start .result + h ≡ placeOf x = place-at r h in
     let entry : getD b (r .before .row-start .result + h) 0 ≡ entryAt (board r) x =
-    ap₂ (λ l k. getD l k 0) (i .before .loop .inv .3) at ∙ entry-untouched (word r) (p r) (board r) (long r) h inside in
-    let kept : entryAdded (word r) x (entryAt (board r) x) ≡ entryAt (board r) x → b ≡ boardOf (below (word r) (p r) (suc h) (board r)) =
-    λ e. i .before .loop .inv .3 ∙ kept-below (word r) (p r) (board r) (long r) h inside e in (
+    ap₂ (λ l k. getD l k 0) (i .before .loop .inv .3) at ∙ entry-untouched (entryAdded (word r)) (p r) (board r) (long r) h inside in
+    let kept : entryAdded (word r) x (entryAt (board r) x) ≡ entryAt (board r) x → b ≡ boardOf (below (entryAdded (word r)) (p r) (suc h) (board r)) =
+    λ e. i .before .loop .inv .3 ∙ kept-below (entryAdded (word r)) (p r) (board r) (long r) h inside e in (
       omega (arith, i .loop-test .taken),
       ⊎-elim (λ w. omega (arith, w .4, i .before .loop .inv .1)) (⊎-elim (λ w. omega (arith, w .4, i .before .loop .inv .1)) (λ w. omega (arith, w .2, i .before .loop .inv .1))) (c .if1 .came),
       rw add-one
@@ -134,21 +134,22 @@ loop-again c =
           (⊎-elim
           (λ w. w .3
           ∙ ap₂ (λ l k. set l k (length (word r))) (i .before .loop .inv .3) at
-          ∙ ap (set (boardOf (below (word r) (p r) h (board r))) (placeOf x))
+          ∙ ap (set (boardOf (below (entryAdded (word r)) (p r) h (board r))) (placeOf x))
           (sym (open-ended (word r) x (entryAt (board r) x) (sym entry ∙ w .0 .taken) (is-true (inRange (length (word r)) x) (range-in (length (word r)) x range)) (sym (w .1 .ensures) ∙ not-true _ (w .2 .taken))))
-          ∙ next-below (word r) (p r) (board r) (long r) h inside)
+          ∙ next-below (entryAdded (word r)) (p r) (board r) (long r) h inside)
           (⊎-elim (λ w. w .3 ∙ kept (period-kept (word r) x (entryAt (board r) x) (sym (w .1 .ensures) ∙ not-false _ (w .2 .left))))
           (λ w. w .1 ∙ kept (ended-kept (word r) x (entryAt (board r) x) (λ z. w .0 .left (entry ∙ z)))))
           (c .if1 .came)),
     )
 
 returns : tie.Need-returns Inv-loop μ-loop
-unfolding rowOpen Periods.row
+unfolding rowOpen rowEnded Periods.row
 returns c =
     let r = c .before .before in
     let e : c .before .loop .h ≡ Periods.heads (length (word r)) (p r) = omega (arith, has r) in (
       c .before .loop .inv .2 ∙ ap (λ (k : ℕ). length (openBelow (board r) (p r) k)) e,
-      c .before .loop .inv .3 ∙ ap (λ (k : ℕ). boardOf (below (word r) (p r) k (board r))) e ∙ all-below (word r) (p r) (board r) (long r),
+      c .before .loop .inv .3 ∙ ap (λ (k : ℕ). boardOf (below (entryAdded (word r)) (p r) k (board r))) e
+      ∙ all-below (entryAdded (word r)) (p r) (board r) (long r) (length (word r)) (out-of-range-kept (word r)),
     )
 
 pub end-row-spec : {M : Type 1} → statement M
@@ -162,7 +163,7 @@ end-row-spec =
     loop-holds
     add-at
     element-copy-out-if1
-    add-trials
+    add-tried
     holds-requires
     cast-board
     element-write-board
