@@ -1,0 +1,123 @@
+-- `squares::list_squares` meets its contract: each of its three answers is the definition's, since the count is that of the definition's words.
+-- Assumes nothing.
+use mathlib.Core.Path.{_≡_, sym, ap, _∙_}
+use mathlib.Core.Bool.{false}
+use mathlib.Core.Option.{none}
+use mathlib.Core.List.{List}
+use Prim.Native.Nat.{ℕ, _≤_, _<_}
+use native.Mathlib.Omega.{arith}
+use lib.ListN.{length, take}
+use borrow.Author.Needs.{needs}
+use Rattle.abelian.specs.Words.{longest}
+use Rattle.abelian.specs.Refusals.{wordRefusal}
+use Rattle.abelian.specs.Output.{fill}
+use Rattle.abelian.specs.Answers.{refusing, writing}
+use Rattle.abelian.specs.Squares.{squareWords}
+use Rattle.abelian.specs.Calls.{squareListing}
+use Rattle.abelian.specs.declared.Refusal.the-variants.{SliceTooShort}
+use Rattle.words.proofs.Refusals.{accepted-none, refused-some, accepted-length, accepted-letters}
+use Rattle.squares.specs.Marks.{squareMarks}
+use Rattle.squares.proofs.Lists.{take-fill}
+use Rattle.squares.proofs.Listing.{listing-refused, listing-short, listing-written}
+use Rattle.squares.proofs.Candidates.{candidates-bound}
+use Rattle.squares.proofs.list_squares.Statement.{statement}
+use Rattle.squares.proofs.list_squares.Tie as tie
+
+-- what is known once the word is accepted
+module _ (c : tie.After-enum-told) where
+  abbrev start : tie.Start
+  start = c .before .before .before .before .before
+
+  abbrev w : List ℕ
+  w = start .args .word .now
+
+  abbrev out : List ℕ
+  out = start .args .out .now
+
+  accepted : wordRefusal w false 0 0 ≡ none
+  accepted = accepted-none (wordRefusal w false 0 0) (sym (c .before .before .check-word .ensures) ∙ c .enum-told .given .1)
+
+  -- the list is refused for its length, or written
+  too-short : (needed : ℕ) → needed ≡ length (squareWords w) → length out < needed → refusing (SliceTooShort needed) out ≡ squareListing w out
+  unfolding squareListing
+  too-short needed e h = ap (λ (k : ℕ). refusing (SliceTooShort k) out) e ∙ sym (listing-short w out (squareWords w) 0 0 0 accepted (omega (arith, e)))
+
+  fits : (needed : ℕ) → needed ≡ length (squareWords w) → needed ≤ length out → writing needed 0 0 0 (fill (squareWords w) out) ≡ squareListing w out
+  unfolding squareListing
+  fits needed e h = ap (λ (k : ℕ). writing k 0 0 0 (fill (squareWords w) out)) e ∙ sym (listing-written w out (squareWords w) 0 0 0 accepted (omega (arith, e)))
+
+check-word-requires : tie.Need-check-word-requires
+check-word-requires c κs = search needs
+
+enum-known-refusal : tie.Need-enum-known-refusal
+enum-known-refusal c = search needs
+
+returns : tie.Need-returns
+unfolding squareListing
+returns c =
+    let at-start = c .before .before .before .before .before .before in
+    let word = at-start .args .word .now in
+    sym
+    (listing-refused word (at-start .args .out .now) (squareWords word) 0 0 0
+    (refused-some (wordRefusal word false 0 0) (c .before .refusal .given .0 .0) (sym (c .before .before .before .check-word .ensures) ∙ c .before .refusal .given .1)))
+
+enum-told : tie.Need-enum-told
+enum-told c = search needs
+
+prefix-counts-requires : tie.Need-prefix-counts-requires
+prefix-counts-requires c κs = (accepted-letters (w c) (accepted c), accepted-length (w c) (accepted c))
+
+slice-aggregate-mark-squares : tie.Need-slice-aggregate-mark-squares
+slice-aggregate-mark-squares c = search needs
+
+mark-squares-requires : tie.Need-mark-squares-requires
+unfolding longest
+mark-squares-requires c κs =
+    let told = c .before .before .before in (
+      record { all = accepted-letters (w told) (accepted told); short = accepted-length (w told) (accepted told); rows = c .before .before .prefix-counts .ensures },
+      candidates-bound (w told) (accepted-length (w told) (accepted told)),
+    )
+
+returns-2 : tie.Need-returns-2
+returns-2 c = too-short (c .before .before .before .before .before .before) (c .before .before .mark-squares .result) (c .before .before .mark-squares .ensures .0) (c .if1 .taken)
+
+slice-aggregate-write-squares : tie.Need-slice-aggregate-write-squares
+slice-aggregate-write-squares c = search needs
+
+write-squares-requires : tie.Need-write-squares-requires
+write-squares-requires c κs =
+    let marked = c .before .before .before .before in
+    let told = marked .before .before .before .before in (
+      accepted-length (w told) (accepted told),
+      (
+        ap (take (length (squareMarks (w told)))) (marked .mark-squares .ensures .1) ∙ take-fill (squareMarks (w told)) _,
+        omega (arith, marked .mark-squares .ensures .0, c .before .before .if1 .left),
+      ),
+    )
+
+same-length : tie.Need-same-length
+same-length c = search needs
+
+returns-3 : tie.Need-returns-3
+returns-3 c =
+    let marked = c .before .before .before .before .before .before .before in
+    let told = marked .before .before .before .before in
+    ap (writing (marked .mark-squares .result) 0 0 0) (c .before .before .write-squares .ensures)
+    ∙ fits told (marked .mark-squares .result) (marked .mark-squares .ensures .0) (c .before .before .before .before .before .if1 .left)
+
+pub list-squares-spec : {M : Type 1} → statement M
+list-squares-spec =
+    tie.close
+    (tie.spec
+    check-word-requires
+    enum-known-refusal
+    returns
+    enum-told
+    prefix-counts-requires
+    slice-aggregate-mark-squares
+    mark-squares-requires
+    returns-2
+    slice-aggregate-write-squares
+    write-squares-requires
+    same-length
+    returns-3)

@@ -1,0 +1,35 @@
+// Abelian squares of a word (document 003): two parts side by side with equal count vectors. A candidate is a half length with a
+// start; each candidate is compared once and marked, so that a list that is too long is refused before the first place of the slice
+// is written.
+pub mod marks;
+pub mod output;
+
+use abelian::LONGEST;
+use abelian::Outcome;
+use abelian::Refusal;
+use abelian::Wrote;
+use marks::mark_squares;
+use output::write_squares;
+ghost use mathlib.Core.Path.{_≡_};
+ghost use Rattle.abelian.specs.Answers.{answeredWrote};
+ghost use Rattle.abelian.specs.Calls.{squareListing};
+
+// The candidates of the longest word, of which no word has more.
+pub const CANDIDATES: usize = (LONGEST / 2) * (LONGEST / 2);
+
+// Writes all Abelian squares of the word, by half length and then by start.
+pub fn list_squares(word: &[u8], out: &mut [u32]) -> Wrote
+    ensures { λ r. ⌜ answeredWrote r (now (out .exit)) ≡ squareListing (now (word .entry)) (now (out .entry)) ⌝ }
+{
+    if let Outcome::Refused(refusal) = words::check_word(word) {
+        return Wrote::Refused(refusal);
+    }
+    let table = words::prefix_counts(word);
+    let mut marks = [0u8; CANDIDATES];
+    let needed = mark_squares(word, &table, &mut marks);
+    if needed > out.len() {
+        return Wrote::Refused(Refusal::SliceTooShort(needed));
+    }
+    write_squares(word, &marks, out);
+    Wrote::Words(needed)
+}
