@@ -82,7 +82,7 @@ ended-periods w l =
 -- ---- the plain lister's answer
 
 pub plain-listed : (w out board : List ℕ) (trials : ℕ) → wordRefusal w false 0 0 ≡ none → board ≡ allEnded w zeros → trials ≡ length (openPairs (length w) zeros)
-  → openListing (length w) board trials out ≡ plainListing w out
+    → openListing (length w) board trials out ≡ plainListing w out
 unfolding openListing plainListing periodWords plainTrials
 plain-listed w out board trials a e f =
     let l : length w ≤ longest = accepted-length w a in

@@ -1,1 +1,2 @@
 pub mod OpenListing
+pub mod Passing

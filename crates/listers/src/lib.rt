@@ -1,5 +1,7 @@
 // The two listers of Abelian periods. Both go through a board of the pairs in range and write those that are left open; they differ in
 // the pairs that they try.
+mod passing;
+
 use abelian::BOARD;
 use abelian::Listed;
 use abelian::Outcome;

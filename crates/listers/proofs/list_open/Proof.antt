@@ -19,7 +19,7 @@ count-open-requires c κs = search needs
 
 returns : tie.Need-returns
 unfolding openListing wordsListed
-returns c = 
+returns c =
     let start = c .before .before .before in
     let opened = openPairs (start .args .n) (start .args .board .now) in
     let out = start .args .out .now in
@@ -34,7 +34,7 @@ same-length c = search needs
 
 returns-2 : tie.Need-returns-2
 unfolding openListing wordsListed
-returns-2 c = 
+returns-2 c =
     let e = c .before .before .before .before in
     let start = e .before .before .before in
     let opened = openPairs (start .args .n) (start .args .board .now) in

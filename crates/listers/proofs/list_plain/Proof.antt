@@ -23,11 +23,11 @@ enum-known-refusal c = search needs
 
 returns : tie.Need-returns
 unfolding plainListing listing
-returns c = 
+returns c =
     let a = c .before .before .before in
     let word = a .before .before .before .args .word .now in
     let refused : wordRefusal word false 0 0 ≡ some (c .before .refusal .given .0 .0) =
-        refused-some (wordRefusal word false 0 0) (c .before .refusal .given .0 .0) (sym (a .check-word .ensures) ∙ c .before .refusal .given .1) in
+    refused-some (wordRefusal word false 0 0) (c .before .refusal .given .0 .0) (sym (a .check-word .ensures) ∙ c .before .refusal .given .1) in
     rw (refused-anyway word refused false (length (periodWords word)) (length (a .before .before .before .args .out .now)))
 
 enum-told : tie.Need-enum-told

@@ -1,0 +1,44 @@
+-- Laws of pairs passed over: which entries are kept, and what is left open on a board of zeros.
+use mathlib.Core.Path.{_≡_, refl, sym, ap, _∙_}
+use mathlib.Core.Bool.{Bool, true, false, _&&_, and-false}
+use mathlib.Core.List.{List}
+use Prim.Native.Nat.{ℕ, zero, suc, _+_, _-_, _≤_, _<_}
+use native.Mathlib.Omega.{arith}
+use lib.ListN.{length, getD}
+use lib.Dec.{ltb}
+use borrow.Author.Tests.{lt-ltb, le-ltb}
+use Rattle.abelian.specs.Lists.{pick}
+use Rattle.abelian.specs.Words.{longest}
+use Rattle.abelian.specs.Periods.{Pair, inRange, pairs}
+use Rattle.abelian.specs.EndedLengths.{boardOf}
+use Rattle.abelian.specs.Trackers.{boardSize, entries}
+use Rattle.board.specs.Ending.{entryInRow}
+use Rattle.board.proofs.EndedRows.{upTo, next-upTo}
+use Rattle.listers.specs.Passing.{entryPassed, rowPassed}
+
+module _ (n : ℕ) (lowest : List ℕ) (x : Pair) (e : ℕ) where
+  -- a pair that is not in range keeps its entry
+  pub out-of-range-kept : inRange n x ≡ false → entryPassed n lowest x e ≡ e
+  unfolding entryPassed
+  out-of-range-kept o = rw o
+
+  -- one whose period is not below the lowest keeps it too
+  pub tried-kept : getD lowest (x .head) 0 ≤ x .period → entryPassed n lowest x e ≡ e
+  unfolding entryPassed
+  tried-kept l = rw (le-ltb (x .period) (getD lowest (x .head) 0) l, and-false)
+
+  -- any other is set to 1
+  pub below-passed : inRange n x ≡ true → x .period < getD lowest (x .head) 0 → entryPassed n lowest x e ≡ 1
+  unfolding entryPassed
+  below-passed r l = rw (r, lt-ltb (x .period) (getD lowest (x .head) 0) l)
+
+-- one row more passed over
+pub next-passed : (n : ℕ) (lowest old board board′ : List ℕ) (p : ℕ) → length old ≡ boardSize → 1 ≤ p → board ≡ boardOf (upTo (entryPassed n lowest) (p - 1) old) → board′ ≡ rowPassed n lowest p board
+  → board′ ≡ boardOf (upTo (entryPassed n lowest) (p + 1 - 1) old)
+unfolding rowPassed
+next-passed n lowest old board board′ zero long l e f = absurd (omega arith)
+next-passed n lowest old board board′ (suc m) long l e f =
+    let d : suc m - 1 ≡ m = omega arith in
+    let d′ : suc m + 1 - 1 ≡ suc m = omega arith in
+    let now : board ≡ boardOf (upTo (entryPassed n lowest) m old) = rw d at e in
+    rw d′ (f ∙ ap (entries (entryInRow (entryPassed n lowest) (suc m)) (pairs longest)) now ∙ next-upTo (entryPassed n lowest) old long m)

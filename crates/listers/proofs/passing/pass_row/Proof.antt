@@ -1,0 +1,147 @@
+-- `listers::passing::pass_row` meets its contract. The invariant of its loop: the row has been gone through up to the head h. The measure is what is
+-- left of the row. Assumes nothing.
+use mathlib.Core.Path.{_≡_, sym, ap, ap₂, _∙_}
+use mathlib.Core.Logic.{⊎-elim}
+use mathlib.Core.List.{List}
+use mathlib.Core.Bool.{true, false}
+use Prim.Native.Nat.{ℕ, suc, _+_, _-_, _≤_, _<_}
+use native.Mathlib.Numerals.{add-one}
+use native.Mathlib.Omega.{arith}
+use lib.ListN.{length, getD, set}
+use lib.Dec.{T}
+use Rattle.abelian.specs.Words.{longest}
+use Rattle.abelian.specs.Periods.{Pair, pair, inRange}
+use Rattle.abelian.specs.Periods
+use Rattle.abelian.specs.EndedLengths.{boardOf}
+use Rattle.abelian.specs.Trackers.{boardSize}
+use Rattle.abelian.proofs.Tests.{is-true}
+use Rattle.abelian.proofs.Pairs.{InRange, range-in}
+use Rattle.board.specs.Places.{placeOf, rowStart, entryAt}
+use Rattle.board.proofs.Rows.{row-end}
+use Rattle.board.proofs.EndedRows.{below, none-below, next-below, kept-below, all-below}
+use Rattle.listers.specs.Passing.{entryPassed, rowPassed}
+use Rattle.listers.proofs.Passed.{out-of-range-kept, tried-kept, below-passed}
+use borrow.Author.Needs.{needs}
+use Rattle.listers.proofs.passing.pass_row.Statement.{statement}
+use Rattle.listers.proofs.passing.pass_row.Tie as tie
+
+abbrev Inv-loop : tie.InvT-loop
+Inv-loop n lowest board₀ p start heads h₀ board h = (h ≤ heads) × (board ≡ boardOf (below (entryPassed n lowest) p h board₀))
+
+abbrev μ-loop : tie.MeasureT-loop
+μ-loop n lowest board₀ p start heads h₀ board h = heads - h
+
+cast-p : tie.Need-cast-p Inv-loop μ-loop
+unfolding longest
+cast-p c = omega (arith, c .before .pre .1 .1, c .before .pre .0)
+
+row-start-requires : tie.Need-row-start-requires Inv-loop μ-loop
+row-start-requires c κs = omega (arith, c .before .pre .1 .1, c .before .pre .0)
+
+row-heads-requires : tie.Need-row-heads-requires Inv-loop μ-loop
+row-heads-requires c κs = omega (arith, c .before .before .pre .1 .1, c .before .before .pre .0)
+
+-- what the calls before the loop say
+module _ (c : tie.After-row-heads Inv-loop μ-loop) where
+  abbrev start : tie.Start Inv-loop μ-loop
+  start = c .before .before .before
+
+  abbrev n : ℕ
+  n = start .args .n
+
+  abbrev p : ℕ
+  p = start .args .period .0
+
+  abbrev lowest : List ℕ
+  lowest = start .args .lowest .now
+
+  abbrev board : List ℕ
+  board = start .args .board .now
+
+  long : length board ≡ boardSize
+  long = start .pre .1 .0
+
+  begins : c .before .row-start .result ≡ rowStart p
+  begins = c .before .row-start .ensures
+
+  has : c .row-heads .result ≡ Periods.heads n p
+  has = c .row-heads .ensures
+
+  on-board : rowStart p + Periods.heads n p ≤ boardSize
+  on-board = row-end n p (start .pre .1 .1 .0) (start .pre .1 .1 .1) (start .pre .0)
+
+  place-at : (h : ℕ) → c .before .row-start .result + h ≡ placeOf (pair h p)
+  unfolding placeOf
+  place-at h = omega (arith, begins)
+
+  -- a head of the row is in range
+  in-row : (h : ℕ) → h < Periods.heads n p → InRange n (pair h p)
+  unfolding Periods.heads
+  in-row h l = record { positive = start .pre .1 .1 .0; below = omega arith; fits = omega (arith, start .pre .1 .1 .1) }
+
+loop-holds : tie.Need-loop-holds Inv-loop μ-loop
+loop-holds c = (omega arith, none-below (entryPassed (n c) (lowest c)) (p c) (board c) (long c))
+
+element-copy-out-if1 : tie.Need-element-copy-out-if1 Inv-loop μ-loop
+unfolding longest
+element-copy-out-if1 c = omega (arith, in-row (c .before .before) (c .before .loop .h) (omega (arith, has (c .before .before), c .loop-test .taken)) .fits, start (c .before .before) .pre .0)
+
+add-at : tie.Need-add-at Inv-loop μ-loop
+unfolding boardSize
+add-at c = let r = c .before .before .before .before in omega (arith, on-board r, begins r, has r, c .before .before .loop-test .taken)
+
+element-write-board : tie.Need-element-write-board Inv-loop μ-loop
+unfolding boardSize
+element-write-board c = let r = c .before .before .before .before in omega (arith, on-board r, begins r, has r, c .before .before .loop-test .taken)
+
+add-h : tie.Need-add-h Inv-loop μ-loop
+add-h c = search needs
+
+loop-less : tie.Need-loop-less Inv-loop μ-loop
+loop-less c = search needs
+
+loop-again : tie.Need-loop-again Inv-loop μ-loop
+loop-again c = 
+    let i = c .before .before in
+    let r = i .before .before in
+    let h = i .before .loop .h in
+    let x = pair h (p r) in
+    let b = i .before .loop .board in
+    let range : InRange (n r) x = in-row r h (omega (arith, has r, i .loop-test .taken)) in
+    let inside : T (inRange longest x) = range-in longest x (record { positive = range .positive; below = range .below; fits = omega (arith, range .fits, start r .pre .0) }) in
+    (omega (arith, i .loop-test .taken),
+    rw add-one
+    (⊎-elim
+    (λ w. w .1
+    ∙ ap₂ (λ l k. set l k 1) (i .before .loop .inv .1) (place-at r h)
+    ∙ ap (set (boardOf (below (entryPassed (n r) (lowest r)) (p r) h (board r))) (placeOf x))
+    (sym (below-passed (n r) (lowest r) x (entryAt (board r) x) (is-true (inRange (n r) x) (range-in (n r) x range)) (w .0 .taken)))
+    ∙ next-below (entryPassed (n r) (lowest r)) (p r) (board r) (long r) h inside)
+    (λ w. w .1 ∙ i .before .loop .inv .1 ∙ kept-below (entryPassed (n r) (lowest r)) (p r) (board r) (long r) h inside (tried-kept (n r) (lowest r) x (entryAt (board r) x) (w .0 .left)))
+    (c .if1 .came)))
+
+returns : tie.Need-returns Inv-loop μ-loop
+unfolding rowPassed
+returns c = 
+    let r = c .before .before in
+    let e : c .before .loop .h ≡ Periods.heads (n r) (p r) = omega (arith, has r) in
+    c .before .loop .inv .1 ∙ ap (λ (k : ℕ). boardOf (below (entryPassed (n r) (lowest r)) (p r) k (board r))) e
+    ∙ all-below (entryPassed (n r) (lowest r)) (p r) (board r) (long r) (n r) (λ x i. out-of-range-kept (n r) (lowest r) x i)
+
+pub pass-row-spec : {M : Type 1} → statement M
+pass-row-spec =
+    tie.close
+    (tie.spec
+    Inv-loop
+    μ-loop
+    cast-p
+    row-start-requires
+    row-heads-requires
+    loop-holds
+    element-copy-out-if1
+    add-at
+    element-write-board
+    add-h
+    loop-less
+    loop-again
+    returns)
