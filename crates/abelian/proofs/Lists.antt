@@ -108,6 +108,17 @@ pub upFrom-last : (a n : ℕ) → upFrom a (suc n) ≡ upFrom a n ++ ((a + n) �
 upFrom-last a zero = let e : a + 0 ≡ a = omega arith in rw e
 upFrom-last a (suc n) = let e : a + suc n ≡ suc a + n = omega arith in rw e (ap (λ (l : List ℕ). a ∷ l) (upFrom-last (suc a) n))
 
+-- the numbers from a on in two parts
+pub upFrom-append : (a m n : ℕ) → upFrom a (m + n) ≡ upFrom a m ++ upFrom (a + m) n
+upFrom-append a zero n =
+    let e : a + 0 ≡ a = omega arith in
+    let f : 0 + n ≡ n = omega arith in
+    rw (e, f)
+upFrom-append a (suc m) n =
+    let e : suc m + n ≡ suc (m + n) = omega arith in
+    let f : a + suc m ≡ suc a + m = omega arith in
+    rw (e, f) (ap (λ (l : List ℕ). a ∷ l) (upFrom-append (suc a) m n))
+
 -- ---- one behind the other
 
 pub keep-append : {A : Type 0} (f : A → Bool) (xs ys : List A) → keep f (xs ++ ys) ≡ keep f xs ++ keep f ys

@@ -16,7 +16,7 @@ use Rattle.abelian.specs.Periods.{Pair, pair, inRange, heads, row, pairs, Risin
 use Rattle.abelian.specs.EndedLengths.{boardOf}
 use Rattle.abelian.specs.Trackers.{boardSize, entries, pairsWhere}
 use Rattle.abelian.proofs.Tests.{is-true, both, left, right, decided}
-use Rattle.abelian.proofs.Lists.{all-mem, upFrom-mem, mem-keep, keep-mem, length-upFrom}
+use Rattle.abelian.proofs.Lists.{all-mem, upFrom-mem, mem-keep, keep-mem, length-upFrom, upFrom-append}
 use Rattle.abelian.proofs.Pairs.{InRange, in-range, range-in, pairs-in-range, in-range-pairs, pairs-rising, rising-keep, rising-equal}
 use Rattle.periods.proofs.PairCount.{length-row, pair-count}
 use Rattle.board.specs.Places.{rowStart, placeOf, entryAt}
@@ -32,16 +32,6 @@ pub next-row : (p : ℕ) → 1 ≤ p → p ≤ longest → rowStart (suc p) ≡ 
 next-row p l u =
     eqb-true (rowStart (suc p)) (rowStart p + heads longest p)
     (is-true _ (all-mem (λ (q : ℕ). eqb (rowStart (suc q)) (rowStart q + heads longest q)) (upFrom 1 longest) rows-follow (upFrom-mem 1 longest p l (omega arith))))
-
-pub upFrom-append : (a m n : ℕ) → upFrom a (m + n) ≡ upFrom a m ++ upFrom (a + m) n
-upFrom-append a zero n =
-    let e : a + 0 ≡ a = omega arith in
-    let f : 0 + n ≡ n = omega arith in
-    rw (e, f)
-upFrom-append a (suc m) n =
-    let e : suc m + n ≡ suc (m + n) = omega arith in
-    let f : a + suc m ≡ suc a + m = omega arith in
-    rw (e, f) (ap (λ (l : List ℕ). a ∷ l) (upFrom-append (suc a) m n))
 
 -- a row's pairs stand one behind the other from its start on
 heads-places : (p a m : ℕ) → map placeOf (map (λ (h : ℕ). pair h p) (upFrom a m)) ≡ upFrom (rowStart p + a) m

@@ -14,10 +14,10 @@ use Rattle.abelian.specs.Periods.{Pair, pair, inRange, heads, row, pairs}
 use Rattle.abelian.specs.Output.{periodWord}
 use Rattle.abelian.specs.Trackers.{boardSize, openPairs, pairsWhere}
 use Rattle.abelian.proofs.Tests.{is-true}
-use Rattle.abelian.proofs.Lists.{all-mem, upFrom-mem, keep-append, each-append, each-last}
+use Rattle.abelian.proofs.Lists.{all-mem, upFrom-mem, upFrom-append, keep-append, each-append, each-last}
 use Rattle.board.specs.Places.{rowStart, placeOf, entryAt, isOpen}
 use Rattle.board.specs.Rows.{rowWords}
-use Rattle.board.proofs.Places.{upFrom-append, board-of-entries, pairsWhere-boardOf, keep-in-range}
+use Rattle.board.proofs.Places.{board-of-entries, pairsWhere-boardOf, keep-in-range}
 
 -- ---- stores one behind the other
 

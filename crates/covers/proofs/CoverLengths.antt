@@ -12,7 +12,7 @@ use Rattle.abelian.specs.Lists.{pick, upFrom, firstOf, same}
 use Rattle.abelian.specs.Words.{vector}
 use Rattle.abelian.specs.Covers.{isCoverLength, coverLength}
 use Rattle.abelian.proofs.Tests.{both, left, right, iff-equal}
-use Rattle.abelian.proofs.Lists.{same-equal, equal-same, mem-upFrom, none-firstOf, firstOf-append}
+use Rattle.abelian.proofs.Lists.{same-equal, equal-same, mem-upFrom, upFrom-append, none-firstOf, firstOf-append}
 use Rattle.abelian.proofs.Counts.{count-take-drop, vector-counts, counts-vector}
 use Rattle.words.proofs.Vectors.{length-vector}
 use Rattle.covers.specs.Differing.{differing}
@@ -55,14 +55,6 @@ module _ (w : List ℕ) (m : ℕ) where
       (equal-same (vector (take m w)) (vector (drop (length w - m) w)) (a .equal))
 
 -- ---- the search
-
--- the numbers from a on, in two parts
-pub upFrom-append : (a m n : ℕ) → upFrom a (m + n) ≡ upFrom a m ++ upFrom (a + m) n
-upFrom-append a zero n = let e : 0 + n ≡ n = omega arith in let z : a + 0 ≡ a = omega arith in rw (e, z)
-upFrom-append a (suc m) n =
-    let e : suc m + n ≡ suc (m + n) = omega arith in
-    let z : a + suc m ≡ suc a + m = omega arith in
-    rw (e, z) (ap (λ (l : List ℕ). a ∷ l) (upFrom-append (suc a) m n))
 
 -- the smallest cover length among the j lengths from m on, or 0
 unfoldable pub smallestFrom : List ℕ → ℕ → ℕ → ℕ

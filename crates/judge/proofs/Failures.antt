@@ -14,18 +14,7 @@ use Rattle.abelian.specs.Periods.{Pair, wholeBlocks}
 use Rattle.abelian.specs.Judge.{Failure, breaks, failures}
 use Rattle.abelian.specs.Answers.{deciding}
 use Rattle.abelian.specs.Calls.{firstFailure}
-use Rattle.abelian.proofs.Lists.{upFrom-last, keep-append, each-append, each-last}
-
--- the numbers from a on, in two parts
-pub upFrom-append : (a m n : ℕ) → upFrom a (m + n) ≡ upFrom a m ++ upFrom (a + m) n
-upFrom-append a zero n =
-    let e : a + 0 ≡ a = omega arith in
-    let f : 0 + n ≡ n = omega arith in
-    rw (e, f)
-upFrom-append a (suc m) n =
-    let e : suc m + n ≡ suc (m + n) = omega arith in
-    let f : a + suc m ≡ suc a + m = omega arith in
-    rw (e, f) (ap (λ (l : List ℕ). a ∷ l) (upFrom-append (suc a) m n))
+use Rattle.abelian.proofs.Lists.{upFrom-last, upFrom-append, keep-append, each-append, each-last}
 
 module _ (w : List ℕ) (x : Pair) where
   -- the failures in block number k

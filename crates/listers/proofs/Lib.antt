@@ -1,2 +1,7 @@
-pub mod Listings
+pub mod Select
+pub mod Positions
+pub mod Gaps
+pub mod LowestPeriods
+pub mod Skipping
 pub mod Passed
+pub mod Listings

@@ -8,34 +8,40 @@ use Prim.Native.Nat.{ℕ, zero, suc, _≤_, _<_}
 use native.Mathlib.Omega.{arith}
 use lib.ListN.{length, getD, replicate, length-replicate, getD-replicate}
 use lib.Dec.{T, eqb, ltb}
-use borrow.Author.Tests.{ltb-true, ltb-false, eq-eqb, ne-eqb}
+use borrow.Author.Tests.{ltb-true, ltb-false, leb-true, leb-false, ne-eqb}
 use Rattle.abelian.specs.Lists.{pick, keep}
-use Rattle.abelian.specs.Words.{longest}
+use Rattle.abelian.specs.Words.{longest, ofLetters}
 use Rattle.abelian.specs.Periods.{Pair, inRange, pairs, isPeriod, periods}
 use Rattle.abelian.specs.Output.{periodWord}
-use Rattle.abelian.specs.Trials.{plainTrials}
+use Rattle.abelian.specs.Trials.{plainTrials, isCandidate, candidates, skippingTrials}
 use Rattle.abelian.specs.EndedLengths.{boardOf}
 use Rattle.abelian.specs.Refusals.{wordRefusal}
 use Rattle.abelian.specs.Answers.{writing, unless}
-use Rattle.abelian.specs.Calls.{listing, periodWords, plainListing}
+use Rattle.abelian.specs.Calls.{listing, periodWords, plainListing, skippingListing}
 use Rattle.abelian.specs.Trackers.{boardSize, openPairs, entries, entryAdded}
-use Rattle.abelian.proofs.Tests.{is-true, decided}
+use Rattle.abelian.proofs.Tests.{is-true, is-false, fails, decided}
 use Rattle.abelian.proofs.Lists.{keep-agree}
 use Rattle.abelian.proofs.Pairs.{InRange, in-range, range-in, pairs-in-range}
-use Rattle.words.proofs.Refusals.{accepted-short, accepted-fits, accepted-length}
+use Rattle.words.proofs.Refusals.{accepted-length, accepted-letters}
+use Rattle.words.proofs.Listings.{listing-short, listing-written}
 use Rattle.board.specs.Places.{placeOf, entryAt}
 use Rattle.board.specs.Ending.{allEnded}
 use Rattle.board.proofs.Places.{place-below, boardOf-agree, entries-of, pairsWhere-boardOf, keep-in-range, board-of-entries, entries-boardOf}
-use Rattle.board.proofs.EndedRows.{period-kept, open-ended}
+use Rattle.board.proofs.EndedRows.{ended-kept, period-kept, open-ended}
 use Rattle.listers.specs.OpenListing.{wordsListed, openListing}
+use Rattle.listers.specs.Lowest.{lowestPeriods}
+use Rattle.listers.specs.Passing.{entryPassed, allPassed}
+use Rattle.listers.proofs.LowestPeriods.{candidate-entry}
+use Rattle.listers.proofs.Skipping.{period-candidate}
+use Rattle.listers.proofs.Passed.{tried-kept, below-passed}
 
 -- an accepted word's list is refused for length alone
 pub accepted-listing : (w out ws : List ℕ) (trials : ℕ) → wordRefusal w false 0 0 ≡ none → listing w out ws trials 0 0 ≡ wordsListed ws trials out
-unfolding listing wordsListed
+unfolding wordsListed
 accepted-listing w out ws trials a =
     ⊎-elim
-    (λ (l : ltb (length out) (length ws) ≡ true). rw (l, accepted-short w a (ltb-true (length out) (length ws) l)))
-    (λ (l : ltb (length out) (length ws) ≡ false). rw (l, accepted-fits w a (ltb-false (length out) (length ws) l)))
+    (λ (l : ltb (length out) (length ws) ≡ true). rw l (listing-short w out ws trials 0 0 a (ltb-true (length out) (length ws) l)))
+    (λ (l : ltb (length out) (length ws) ≡ false). rw l (listing-written w out ws trials 0 0 a (ltb-false (length out) (length ws) l)))
     (decided (ltb (length out) (length ws)))
 
 -- ---- the open pairs of a board that is known by its entries
@@ -89,3 +95,64 @@ plain-listed w out board trials a e f =
     ap₂ (λ b k. wordsListed (map periodWord (openPairs (length w) b)) k out) e f
     ∙ ap₂ (λ xs ys. wordsListed (map periodWord xs) (length ys) out) (ended-periods w l) (zeros-open (length w) l)
     ∙ sym (accepted-listing w out (map periodWord (periods w)) (length (pairs (length w))) a)
+
+-- ---- the skipping lister's answer
+
+module _ (w : List ℕ) (t : T (ofLetters w)) (l : length w ≤ longest) where
+  abbrev entry : Pair → ℕ
+  entry x = entryPassed (length w) (lowestPeriods w) x 0
+
+  -- a board of zeros after pairs have been passed over
+  passed-board : allPassed (length w) (lowestPeriods w) zeros ≡ boardOf entry
+  unfolding allPassed
+  passed-board =
+      ap (entries (entryPassed (length w) (lowestPeriods w)) (pairs longest)) zeros-board
+      ∙ entries-boardOf (entryPassed (length w) (lowestPeriods w)) (λ (x : Pair). 0)
+
+  module _ (x : Pair) (r : T (inRange (length w) x)) where
+    -- a candidate is open on it, and no other pair
+    candidate-open : isCandidate w x ≡ true → entry x ≡ 0
+    candidate-open c = tried-kept (length w) (lowestPeriods w) x 0 (leb-true (getD (lowestPeriods w) (x .head) 0) (x .period) (sym (candidate-entry w x l r) ∙ c))
+
+    other-passed : isCandidate w x ≡ false → entry x ≡ 1
+    other-passed c =
+        below-passed (length w) (lowestPeriods w) x 0 (is-true (inRange (length w) x) r)
+        (leb-false (getD (lowestPeriods w) (x .head) 0) (x .period) (sym (candidate-entry w x l r) ∙ c))
+
+    open-candidate : eqb (entry x) 0 ≡ isCandidate w x
+    open-candidate =
+        ⊎-elim (λ (c : isCandidate w x ≡ true). rw (candidate-open c, c)) (λ (c : isCandidate w x ≡ false). rw (other-passed c, c)) (decided (isCandidate w x))
+
+    -- and after the open pairs have been ended, the Abelian periods
+    tried-period : eqb (entryAdded w x (entry x)) 0 ≡ isPeriod w x
+    tried-period =
+        ⊎-elim (λ (c : isCandidate w x ≡ true). ap (λ (e : ℕ). eqb (entryAdded w x e) 0) (candidate-open c) ∙ open-period w x r)
+        (λ (c : isCandidate w x ≡ false).
+        ap (λ (e : ℕ). eqb (entryAdded w x e) 0) (other-passed c)
+        ∙ ap (λ (e : ℕ). eqb e 0) (ended-kept w x 1 (omega arith))
+        ∙ sym (is-false (isPeriod w x) (λ p. fails (isCandidate w x) c (period-candidate w x t p))))
+        (decided (isCandidate w x))
+
+  passed-open : openPairs (length w) (boardOf entry) ≡ candidates w
+  unfolding candidates
+  passed-open =
+      open-of-entries (length w) entry l
+      ∙ keep-agree (λ (x : Pair). eqb (entry x) 0) (isCandidate w) (pairs (length w)) (λ x m. open-candidate x (pairs-in-range (length w) x m))
+
+  passed-periods : openPairs (length w) (allEnded w (boardOf entry)) ≡ periods w
+  unfolding allEnded periods
+  passed-periods =
+      ap (openPairs (length w)) (entries-boardOf (entryAdded w) entry)
+      ∙ open-of-entries (length w) (λ (x : Pair). entryAdded w x (entry x)) l
+      ∙ keep-agree (λ (x : Pair). eqb (entryAdded w x (entry x)) 0) (isPeriod w) (pairs (length w)) (λ x m. tried-period x (pairs-in-range (length w) x m))
+
+pub skipping-listed : (w out passed board : List ℕ) (trials : ℕ) → wordRefusal w false 0 0 ≡ none → passed ≡ allPassed (length w) (lowestPeriods w) zeros → board ≡ allEnded w passed
+    → trials ≡ length (openPairs (length w) passed) → openListing (length w) board trials out ≡ skippingListing w out
+unfolding openListing skippingListing periodWords skippingTrials
+skipping-listed w out passed board trials a p e f =
+    let l : length w ≤ longest = accepted-length w a in
+    let t : T (ofLetters w) = accepted-letters w a in
+    let b : passed ≡ boardOf (entry w t l) = p ∙ passed-board w t l in
+    let n : trials ≡ length (candidates w) = f ∙ ap (λ (q : List ℕ). length (openPairs (length w) q)) b ∙ ap length (passed-open w t l) in
+    let xs : openPairs (length w) board ≡ periods w = ap (openPairs (length w)) (e ∙ ap (allEnded w) b) ∙ passed-periods w t l in
+    ap₂ (λ ys k. wordsListed (map periodWord ys) k out) xs n ∙ sym (accepted-listing w out (map periodWord (periods w)) (length (candidates w)) a)

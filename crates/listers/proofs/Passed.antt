@@ -13,8 +13,9 @@ use Rattle.abelian.specs.Periods.{Pair, inRange, pairs}
 use Rattle.abelian.specs.EndedLengths.{boardOf}
 use Rattle.abelian.specs.Trackers.{boardSize, entries}
 use Rattle.board.specs.Ending.{entryInRow}
+use Rattle.board.proofs.Places.{entries-of, length-boardOf}
 use Rattle.board.proofs.EndedRows.{upTo, next-upTo}
-use Rattle.listers.specs.Passing.{entryPassed, rowPassed}
+use Rattle.listers.specs.Passing.{entryPassed, rowPassed, allPassed}
 
 module _ (n : ℕ) (lowest : List ℕ) (x : Pair) (e : ℕ) where
   -- a pair that is not in range keeps its entry
@@ -34,7 +35,7 @@ module _ (n : ℕ) (lowest : List ℕ) (x : Pair) (e : ℕ) where
 
 -- one row more passed over
 pub next-passed : (n : ℕ) (lowest old board board′ : List ℕ) (p : ℕ) → length old ≡ boardSize → 1 ≤ p → board ≡ boardOf (upTo (entryPassed n lowest) (p - 1) old) → board′ ≡ rowPassed n lowest p board
-  → board′ ≡ boardOf (upTo (entryPassed n lowest) (p + 1 - 1) old)
+    → board′ ≡ boardOf (upTo (entryPassed n lowest) (p + 1 - 1) old)
 unfolding rowPassed
 next-passed n lowest old board board′ zero long l e f = absurd (omega arith)
 next-passed n lowest old board board′ (suc m) long l e f =
@@ -42,3 +43,7 @@ next-passed n lowest old board board′ (suc m) long l e f =
     let d′ : suc m + 1 - 1 ≡ suc m = omega arith in
     let now : board ≡ boardOf (upTo (entryPassed n lowest) m old) = rw d at e in
     rw d′ (f ∙ ap (entries (entryInRow (entryPassed n lowest) (suc m)) (pairs longest)) now ∙ next-upTo (entryPassed n lowest) old long m)
+
+pub length-passed : (n : ℕ) (lowest board : List ℕ) → length board ≡ boardSize → length (allPassed n lowest board) ≡ boardSize
+unfolding allPassed
+length-passed n lowest board long = ap length (entries-of (entryPassed n lowest) board long) ∙ length-boardOf _

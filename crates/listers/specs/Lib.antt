@@ -1,2 +1,3 @@
 pub mod OpenListing
+pub mod Lowest
 pub mod Passing

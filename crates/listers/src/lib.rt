@@ -1,5 +1,6 @@
 // The two listers of Abelian periods. Both go through a board of the pairs in range and write those that are left open; they differ in
 // the pairs that they try.
+mod lowest;
 mod passing;
 
 use abelian::BOARD;
@@ -9,13 +10,15 @@ use abelian::Refusal;
 use board::count_open;
 use board::ending::end_pairs;
 use board::write_open;
+use lowest::lowest_periods;
+use passing::pass_over;
 use words::check_word;
 use words::prefix_counts;
 ghost use mathlib.Core.Path.{_≡_};
 ghost use Prim.Native.Nat.{_≤_};
 ghost use Rattle.abelian.specs.Words.{longest};
 ghost use Rattle.abelian.specs.Answers.{answeredListed};
-ghost use Rattle.abelian.specs.Calls.{plainListing};
+ghost use Rattle.abelian.specs.Calls.{plainListing, skippingListing};
 ghost use Rattle.listers.specs.OpenListing.{openListing};
 
 // Lists the open pairs of a board that are in range for n. Counted before the first word is written, so that a refusal leaves the slice
@@ -42,6 +45,22 @@ pub fn list_plain(word: &[u8], out: &mut [u32]) -> Listed
     }
     let counts = prefix_counts(word);
     let mut board = [0u8; BOARD];
+    let tried = end_pairs(word, &counts, &mut board);
+    list_open(&board, word.len(), tried, out)
+}
+
+// Lists all Abelian periods of the word, and tries only the pairs that document 004's two bounds leave: those whose head is not ruled out
+// and whose period is not below the lowest one for the head. What is passed over is no Abelian period.
+pub fn list_skipping(word: &[u8], out: &mut [u32]) -> Listed
+    ensures { λ r. ⌜ answeredListed r (now (out .exit)) ≡ skippingListing (now (word .entry)) (now (out .entry)) ⌝ }
+{
+    if let Outcome::Refused(refusal) = check_word(word) {
+        return Listed::Refused(refusal);
+    }
+    let counts = prefix_counts(word);
+    let lowest = lowest_periods(word, &counts);
+    let mut board = [0u8; BOARD];
+    pass_over(word.len(), &lowest, &mut board);
     let trials = end_pairs(word, &counts, &mut board);
     list_open(&board, word.len(), trials, out)
 }

@@ -112,8 +112,8 @@ module _ (w : List ℕ) (b : ℕ) (x : Pair) (p : 1 ≤ x .period) (h : x .head 
       let last : a + k ≡ suc (length w) = omega arith in
       let split : upFrom a (suc (length W) - a) ≡ upFrom a k ++ (suc (length w) ∷ []) = ap (upFrom a) e ∙ upFrom-last a k ∙ ap (λ (j : ℕ). upFrom a k ++ (j ∷ [])) last in
       let old : firstOf (ended W x) (upFrom a k) ≡ firstOf (ended w x) (upFrom a k) =
-          firstOf-agree (ended W x) (ended w x) (upFrom a k)
-          (λ j m. let c : (a ≤ j) × (j ≤ length w) = lengths-bounds (length w) x j m in ap (λ (v : List ℕ). not (isPeriod v x)) (take-append-le j w (b ∷ []) (c .1))) in
+      firstOf-agree (ended W x) (ended w x) (upFrom a k)
+      (λ j m. let c : (a ≤ j) × (j ≤ length w) = lengths-bounds (length w) x j m in ap (λ (v : List ℕ). not (isPeriod v x)) (take-append-le j w (b ∷ []) (c .1))) in
       let whole : take (suc (length w)) W ≡ W = rw (← length-W) (take-length W) in
       ap (firstOf (ended W x)) split
       ∙ firstOf-append (ended W x) (upFrom a k) (suc (length w) ∷ []) (λ j m. let c : (a ≤ j) × (j ≤ length w) = lengths-bounds (length w) x j m in omega arith)
@@ -130,7 +130,7 @@ module _ (w : List ℕ) (b : ℕ) (x : Pair) (p : 1 ≤ x .period) (h : x .head 
           rw (out-of-range-open W x (omega (arith, length-W)), out-of-range-open w x (omega arith), out)
       go (no l) =
           let within : inRange (length W) x ≡ true =
-              is-true (inRange (length W) x) (range-in (length W) x (record { positive = p; below = h; fits = omega (arith, length-W) })) in
+          is-true (inRange (length W) x) (range-in (length W) x (record { positive = p; below = h; fits = omega (arith, length-W) })) in
           rw (ended-more (omega arith), within, length-W) (chosen (endedLength w x) (suc (length w)) (not (isPeriod W x)))
 
   -- the entry after one letter less is that of the tracker's take-back

@@ -70,7 +70,7 @@ module _ (w : List ℕ) (x : Pair) (t : T (ofLetters w)) (r : InRange (length w)
             (omega (arith, head-length w x r, block-length w x r, r .below));
         alike = a;
         tailContained =
-            shorter-contained (tailOf w x) (block w x 1) tail-letters block-letters n (omega (arith, tail-short, block-length w x r))
+            shorter-contained (tailOf w x) (block w x 1) tail-letters block-letters n (omega (arith, tail-short, block-length w x r));
       }))
 
 -- ---- how far the blocks have been passed
@@ -91,7 +91,7 @@ module _ (w : List ℕ) (x : Pair) (r : InRange (length w) x) where
         some = omega arith;
         reached = let e : 1 * x .period ≡ x .period = omega arith in omega arith;
         within = r .fits;
-        alike = λ k l u. let e : k ≡ 1 = omega arith in rw e
+        alike = λ k l u. let e : k ≡ 1 = omega arith in rw e;
       }
 
   module _ (at : ℕ) (p : Passed w x at) where
@@ -117,7 +117,7 @@ module _ (w : List ℕ) (x : Pair) (r : InRange (length w) x) where
           alike = λ k m u.
               ⊎-elim (λ (q : eqb k (suc (p .blocks)) ≡ true). let f : k ≡ suc (p .blocks) = eqb-true k (suc (p .blocks)) q in rw (f, next-block) e)
               (λ (q : eqb k (suc (p .blocks)) ≡ false). let n : k ≢ suc (p .blocks) = eqb-false k (suc (p .blocks)) q in p .alike k m (omega arith))
-              (decided (eqb k (suc (p .blocks))))
+              (decided (eqb k (suc (p .blocks))));
         }
 
     -- no more is whole: the blocks passed are all of them, and the tail is what is left

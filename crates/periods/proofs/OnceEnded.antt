@@ -109,15 +109,15 @@ module _ (v : List ℕ) (x : Pair) (k : ℕ) (t : T (ofLetters v)) (c : Conditio
           let r : suc q * x .period ≤ wholeBlocks (length v) x * x .period = mul-le-mul-right (x .period) i in
           let s : length (take (k - at) (drop at v)) < x .period = rw prefix-tail at tail-short in
           let short : k - at ≤ x .period =
-              omega (arith, length-take (k - at) (drop at v), length-drop at v, suc-mul q (x .period), reach (length v) x (c .range .positive) .low, c .range .fits) in
+          omega (arith, length-take (k - at) (drop at v), length-drop at v, suc-mul q (x .period), reach (length v) x (c .range .positive) .low, c .range .fits) in
           let b : block v x (suc q) ≡ take (x .period) (drop at v) = rw e in
           let n : count d (block v x (suc q)) ≡ count d (block v x 1) =
-              vector-counts (block v x (suc q)) (block v x 1) (c .alike (suc q) (omega arith) i) d m in
+          vector-counts (block v x (suc q)) (block v x 1) (c .alike (suc q) (omega arith) i) d m in
           rw (prefix-tail, ← n, b, ← take-take (k - at) (x .period) (drop at v) short) (count-take-le d (k - at) (take (x .period) (drop at v)))
       go (no i) =
           let e : wholeBlocks (length v) x ≡ q = omega (arith, prefix-blocks) in
           let n : count d (tailOf v x) ≤ count d (block v x 1) =
-              noneAbove-counts (tailOf v x) (block v x 1) (contained-noneAbove (vector (tailOf v x)) (vector (block v x 1)) (c .tailContained)) d m in
+          noneAbove-counts (tailOf v x) (block v x 1) (contained-noneAbove (vector (tailOf v x)) (vector (block v x 1)) (c .tailContained)) d m in
           let f : tailOf v x ≡ drop at v = ap (λ (j : ℕ). drop (x .head + j * x .period) v) e in
           rw prefix-tail (omega (arith, count-take-le d (k - at) (drop at v), rw f at n))
 
@@ -137,11 +137,11 @@ module _ (v : List ℕ) (x : Pair) (k : ℕ) (t : T (ofLetters v)) (c : Conditio
         alike = λ j o m. ap vector (prefix-block j o m) ∙ c .alike j o (omega (arith, prefix-blocks)) ∙ ap vector (sym first-block);
         tailContained =
             shorter-contained (tailOf u x) (block u x 1) tail-letters block-letters
-            (counts-noneAbove (tailOf u x) (block u x 1) (λ d m. rw first-block (tail-counts d m))) (omega (arith, tail-short, block-length u x prefix-range))
+            (counts-noneAbove (tailOf u x) (block u x 1) (λ d m. rw first-block (tail-counts d m))) (omega (arith, tail-short, block-length u x prefix-range));
       }
 
 pub once-ended : (w : List ℕ) (x : Pair) (k m : ℕ) → T (ofLetters w) → T (isPeriod (take m w) x) → x .head + x .period ≤ k → k ≤ m → T (isPeriod (take k w) x)
 once-ended w x k m t p l i =
     let r : T (isPeriod (take k (take m w)) x) =
-        conditions-period (take k (take m w)) x (prefix-conditions (take m w) x k (letters-take m w t) (period-conditions (take m w) x p) l) in
+    conditions-period (take k (take m w)) x (prefix-conditions (take m w) x k (letters-take m w t) (period-conditions (take m w) x p) l) in
     rw (take-take k m w i) at r

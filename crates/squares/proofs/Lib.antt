@@ -1,5 +1,4 @@
 -- The laws of this crate: of lists that are made and written piece by piece, of marks, and of the list of squares.
 pub mod Lists
-pub mod Listing
 pub mod Candidates
 pub mod Squares

@@ -9,17 +9,9 @@ use lib.ListN.{length, take, drop, getD, set, length-append, length-drop, drop-o
 use lib.Seq.{take-all, drop-cons, drop-drop, set-append-seam, append-snoc, take-append-seam, drop-append-seam}
 use Rattle.abelian.specs.Lists.{one, upFrom, put, keep, each}
 use Rattle.abelian.specs.Output.{fill}
-use Rattle.abelian.proofs.Lists.{upFrom-last, keep-append, each-append}
+use Rattle.abelian.proofs.Lists.{upFrom-last, upFrom-append, keep-append, each-append}
 
 -- ---- one number more
-
--- the numbers from a on are the first of them and those behind
-pub upFrom-split : (a k m : ℕ) → upFrom a (k + m) ≡ upFrom a k ++ upFrom (a + k) m
-upFrom-split a zero m = let e : a + 0 ≡ a = omega arith in let f : 0 + m ≡ m = omega arith in rw (e, f)
-upFrom-split a (suc k) m =
-    let e : suc k + m ≡ suc (k + m) = omega arith in
-    let f : a + suc k ≡ suc a + k = omega arith in
-    rw (e, f) (ap (λ (l : List ℕ). a ∷ l) (upFrom-split (suc a) k m))
 
 -- f of one number more stands behind the others
 pub map-more : {A : Type 0} (f : ℕ → A) (a n : ℕ) → map f (upFrom a (suc n)) ≡ map f (upFrom a n) ++ (f (a + n) ∷ [])
@@ -45,7 +37,7 @@ pub keep-rises : (f : ℕ → Bool) (a : ℕ) {k n : ℕ} → k ≤ n → length
 keep-rises f a {k} {n} h =
     let e : k + (n - k) ≡ n = omega arith in
     let s : keep f (upFrom a n) ≡ keep f (upFrom a k) ++ keep f (upFrom (a + k) (n - k)) =
-    ap (keep f) (rw e at (upFrom-split a k (n - k))) ∙ keep-append f (upFrom a k) (upFrom (a + k) (n - k)) in
+    ap (keep f) (rw e at (upFrom-append a k (n - k))) ∙ keep-append f (upFrom a k) (upFrom (a + k) (n - k)) in
     omega (arith, ap length s, length-append (keep f (upFrom a k)) (keep f (upFrom (a + k) (n - k))))
 
 -- no more are kept than there are
@@ -65,7 +57,7 @@ module _ {B : Type 0} (f : ℕ → List B) where
   each-split q n l u =
       let e : q - 1 + suc (n - q) ≡ n = omega arith in
       let h : 1 + (q - 1) ≡ q = omega arith in
-      ap (λ (xs : List ℕ). each xs f) (rw e at (upFrom-split 1 (q - 1) (suc (n - q)))) ∙ each-append f (upFrom 1 (q - 1)) (upFrom (1 + (q - 1)) (suc (n - q))) ∙ rw h
+      ap (λ (xs : List ℕ). each xs f) (rw e at (upFrom-append 1 (q - 1) (suc (n - q)))) ∙ each-append f (upFrom 1 (q - 1)) (upFrom (1 + (q - 1)) (suc (n - q))) ∙ rw h
 
   -- the lists of one number more
   pub each-more : (q : ℕ) → 1 ≤ q → each (upFrom 1 (q + 1 - 1)) f ≡ each (upFrom 1 (q - 1)) f ++ f q
@@ -90,7 +82,7 @@ module _ {B : Type 0} (f : ℕ → List B) where
   each-rest {k} {n} h z =
       let e : k + (n - k) ≡ n = omega arith in
       let none : each (upFrom (1 + k) (n - k)) f ≡ [] = each-none (1 + k) (n - k) (λ q l. z q (omega arith)) in
-      ap (λ (l : List ℕ). each l f) (rw e at (upFrom-split 1 k (n - k))) ∙ each-append f (upFrom 1 k) (upFrom (1 + k) (n - k)) ∙ rw none (append-nil (each (upFrom 1 k) f))
+      ap (λ (l : List ℕ). each l f) (rw e at (upFrom-append 1 k (n - k))) ∙ each-append f (upFrom 1 k) (upFrom (1 + k) (n - k)) ∙ rw none (append-nil (each (upFrom 1 k) f))
 
 -- ---- an accepted list, piece by piece
 

@@ -15,7 +15,7 @@ use Rattle.words.specs.Differences.{minus}
 
 -- a test that goes through two lists place by place: over one place more it is the test so far and that at the place
 module _ (test : ℕ → ℕ → Bool) (through : List ℕ → List ℕ → Bool) (none : through [] [] ≡ true)
-  (cons : (a b : ℕ) (u v : List ℕ) → through (a ∷ u) (b ∷ v) ≡ (test a b && through u v)) where
+    (cons : (a b : ℕ) (u v : List ℕ) → through (a ∷ u) (b ∷ v) ≡ (test a b && through u v)) where
   more : (u v : List ℕ) (j : ℕ) → j < length u → j < length v → through (take (suc j) u) (take (suc j) v) ≡ (through (take j u) (take j v) && test (getD u j 0) (getD v j 0))
   more [] v j l m = absurd (omega arith)
   more (a ∷ u) [] j l m = absurd (omega arith)

@@ -1,7 +1,7 @@
 // Count vectors of parts of a word: their difference, and the two tests that the papers make of them. Every letter is looked at and no loop is left
 // inside a vector, so that each becomes a few vector instructions. For the crates above.
-use abelian::LETTERS;
 use crate::ROWS;
+use abelian::LETTERS;
 ghost use mathlib.Core.Path.{_≡_};
 ghost use mathlib.Core.Bool.{not};
 ghost use mathlib.Core.List.{[]};

@@ -107,9 +107,10 @@ module _ (c : tie.After-differs Inv-loop μ-loop) where
 between-requires-3 : tie.Need-between-requires-3 Inv-loop μ-loop
 between-requires-3 c κs =
     let t = s (c .before .before .before .before) in
-    let at = c .before .loop .at in
-    ((omega (arith, c .before .loop .inv .within, t .pre .0 .short), omega (arith, c .before .loop .inv .within, t .pre .0 .short)),
-    counted-rises (w t) (t .args .counts .now) (t .pre .0) (omega arith) (omega (arith, c .before .loop .inv .within)))
+    let at = c .before .loop .at in (
+      (omega (arith, c .before .loop .inv .within, t .pre .0 .short), omega (arith, c .before .loop .inv .within, t .pre .0 .short)),
+      counted-rises (w t) (t .args .counts .now) (t .pre .0) (omega arith) (omega (arith, c .before .loop .inv .within)),
+    )
 
 differs-requires : tie.Need-differs-requires Inv-loop μ-loop
 differs-requires c κs = search needs
@@ -132,7 +133,7 @@ loop-again c =
     let d = c .before in
     let i = d .before .before in
     let e : vector (block (w (t d)) (x (t d)) (suc (passed d .blocks))) ≡ vector (block (w (t d)) (x (t d)) 1) =
-        same-equal _ _ (passes (like d) (not-false (like d) (sym (next-test d) ∙ c .if2 .left))) in
+    same-equal _ _ (passes (like d) (not-false (like d) (sym (next-test d) ∙ c .if2 .left))) in
     next-passed (w (t d)) (x (t d)) (range (t d)) (at-loop d .loop .at) (passed d) (i .loop-test .taken)
     (ap vector (sym (next-block (w (t d)) (x (t d)) (range (t d)) (at-loop d .loop .at) (passed d))) ∙ e)
 
@@ -155,12 +156,12 @@ returns-3 c =
     let rest : at + (length (w v) - at) ≡ length (w v) = omega (arith, p .within) in
     let blocks : wholeBlocks (length (w v)) (x v) ≡ p .blocks = all-passed (w v) (x v) (range v) at p left in
     let decides : isPeriod (w v) (x v) ≡ noneAbove (vector (tailOf (w v) (x v))) (vector (block (w v) (x v) 1)) =
-        tail-decides (w v) (x v) (v .pre .0 .all) (range v) (not-false _ (sym (head-test b) ∙ a .before .if1 .left))
-        (λ k l u. p .alike k l (omega arith)) in
+    tail-decides (w v) (x v) (v .pre .0 .all) (range v) (not-false _ (sym (head-test b) ∙ a .before .if1 .left))
+    (λ k l u. p .alike k l (omega arith)) in
     let tail : c .before .between4 .result ≡ vector (tailOf (w v) (x v)) =
-        c .before .between4 .ensures
-        ∙ rw rest at (counted-part (w v) (v .args .counts .now) (v .pre .0) at (length (w v) - at) (omega arith))
-        ∙ ap vector (sym (tail-left (w v) (x v) (range v) at p left)) in
+    c .before .between4 .ensures
+    ∙ rw rest at (counted-part (w v) (v .args .counts .now) (v .pre .0) at (length (w v) - at) (omega arith))
+    ∙ ap vector (sym (tail-left (w v) (x v) (range v) at p left)) in
     ap not (c .exceeds2 .ensures) ∙ Bool·not-not _ ∙ ap₂ noneAbove tail (first (b .before)) ∙ sym decides
 
 pub holds-spec : {M : Type 1} → statement M

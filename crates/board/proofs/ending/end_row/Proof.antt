@@ -149,7 +149,7 @@ returns c =
     let e : c .before .loop .h ≡ Periods.heads (length (word r)) (p r) = omega (arith, has r) in (
       c .before .loop .inv .2 ∙ ap (λ (k : ℕ). length (openBelow (board r) (p r) k)) e,
       c .before .loop .inv .3 ∙ ap (λ (k : ℕ). boardOf (below (entryAdded (word r)) (p r) k (board r))) e
-      ∙ all-below (entryAdded (word r)) (p r) (board r) (long r) (length (word r)) (out-of-range-kept (word r)),
+          ∙ all-below (entryAdded (word r)) (p r) (board r) (long r) (length (word r)) (out-of-range-kept (word r)),
     )
 
 pub end-row-spec : {M : Type 1} → statement M

@@ -24,7 +24,7 @@ loop-holds : tie.Need-loop-holds Inv-loop μ-loop
 loop-holds c = (omega arith, omega arith, none-upTo (entryPassed (c .args .n) (c .args .lowest .now)) (c .args .board .now) (c .pre .1))
 
 pass-row-requires : tie.Need-pass-row-requires Inv-loop μ-loop
-pass-row-requires c κs = 
+pass-row-requires c κs =
     let i = c .before in
     (i .before .before .pre .0, (ap length (i .before .loop .inv .2) ∙ length-boardOf _, (i .before .loop .inv .0, i .loop-test .taken)))
 
@@ -36,16 +36,18 @@ loop-less : tie.Need-loop-less Inv-loop μ-loop
 loop-less c = omega (arith, c .before .before .loop-test .taken)
 
 loop-again : tie.Need-loop-again Inv-loop μ-loop
-loop-again c = 
+loop-again c =
     let i = c .before .before in
-    let start = i .before .before in
-    (omega arith, omega (arith, i .loop-test .taken),
-    next-passed (start .args .n) (start .args .lowest .now) (start .args .board .now) (i .before .loop .board) _ (i .before .loop .p) (start .pre .1) (i .before .loop .inv .0)
-    (i .before .loop .inv .2) (c .pass-row .ensures))
+    let start = i .before .before in (
+      omega arith,
+      omega (arith, i .loop-test .taken),
+      next-passed (start .args .n) (start .args .lowest .now) (start .args .board .now) (i .before .loop .board) _ (i .before .loop .p) (start .pre .1) (i .before .loop .inv .0)
+          (i .before .loop .inv .2) (c .pass-row .ensures),
+    )
 
 returns : tie.Need-returns Inv-loop μ-loop
 unfolding allPassed
-returns c = 
+returns c =
     let start = c .before .before in
     let f = entryPassed (start .args .n) (start .args .lowest .now) in
     let e : c .before .loop .p - 1 ≡ start .args .n = omega arith in

@@ -101,28 +101,29 @@ loop-less : tie.Need-loop-less Inv-loop μ-loop
 loop-less c = search needs
 
 loop-again : tie.Need-loop-again Inv-loop μ-loop
-loop-again c = 
+loop-again c =
     let i = c .before .before in
     let r = i .before .before in
     let h = i .before .loop .h in
     let x = pair h (p r) in
     let b = i .before .loop .board in
     let range : InRange (n r) x = in-row r h (omega (arith, has r, i .loop-test .taken)) in
-    let inside : T (inRange longest x) = range-in longest x (record { positive = range .positive; below = range .below; fits = omega (arith, range .fits, start r .pre .0) }) in
-    (omega (arith, i .loop-test .taken),
-    rw add-one
-    (⊎-elim
-    (λ w. w .1
-    ∙ ap₂ (λ l k. set l k 1) (i .before .loop .inv .1) (place-at r h)
-    ∙ ap (set (boardOf (below (entryPassed (n r) (lowest r)) (p r) h (board r))) (placeOf x))
-    (sym (below-passed (n r) (lowest r) x (entryAt (board r) x) (is-true (inRange (n r) x) (range-in (n r) x range)) (w .0 .taken)))
-    ∙ next-below (entryPassed (n r) (lowest r)) (p r) (board r) (long r) h inside)
-    (λ w. w .1 ∙ i .before .loop .inv .1 ∙ kept-below (entryPassed (n r) (lowest r)) (p r) (board r) (long r) h inside (tried-kept (n r) (lowest r) x (entryAt (board r) x) (w .0 .left)))
-    (c .if1 .came)))
+    let inside : T (inRange longest x) = range-in longest x (record { positive = range .positive; below = range .below; fits = omega (arith, range .fits, start r .pre .0) }) in (
+      omega (arith, i .loop-test .taken),
+      rw add-one
+          (⊎-elim
+          (λ w. w .1
+          ∙ ap₂ (λ l k. set l k 1) (i .before .loop .inv .1) (place-at r h)
+          ∙ ap (set (boardOf (below (entryPassed (n r) (lowest r)) (p r) h (board r))) (placeOf x))
+          (sym (below-passed (n r) (lowest r) x (entryAt (board r) x) (is-true (inRange (n r) x) (range-in (n r) x range)) (w .0 .taken)))
+          ∙ next-below (entryPassed (n r) (lowest r)) (p r) (board r) (long r) h inside)
+          (λ w. w .1 ∙ i .before .loop .inv .1 ∙ kept-below (entryPassed (n r) (lowest r)) (p r) (board r) (long r) h inside (tried-kept (n r) (lowest r) x (entryAt (board r) x) (w .0 .left)))
+          (c .if1 .came)),
+    )
 
 returns : tie.Need-returns Inv-loop μ-loop
 unfolding rowPassed
-returns c = 
+returns c =
     let r = c .before .before in
     let e : c .before .loop .h ≡ Periods.heads (n r) (p r) = omega (arith, has r) in
     c .before .loop .inv .1 ∙ ap (λ (k : ℕ). boardOf (below (entryPassed (n r) (lowest r)) (p r) k (board r))) e

@@ -54,11 +54,13 @@ loop-again c =
     let counts = c .before .loop .counts in
     let j = c .before .loop .j in
     let less : j < length counts = omega arith in
-    let new : List ℕ = set counts j (getD longer j 0 - getD shorter j 0) in
-    (length-set counts j (getD longer j 0 - getD shorter j 0) ∙ c .before .loop .inv .0, omega arith,
-    below-more (λ (k : ℕ). getD new k 0 ≡ getD longer k 0 - getD shorter k 0) j
-    (λ k l. getD-set-other counts j k (getD longer j 0 - getD shorter j 0) 0 (omega arith) ∙ c .before .loop .inv .2 k l)
-    (getD-set-same counts j (getD longer j 0 - getD shorter j 0) 0 less))
+    let new : List ℕ = set counts j (getD longer j 0 - getD shorter j 0) in (
+      length-set counts j (getD longer j 0 - getD shorter j 0) ∙ c .before .loop .inv .0,
+      omega arith,
+      below-more (λ (k : ℕ). getD new k 0 ≡ getD longer k 0 - getD shorter k 0) j
+          (λ k l. getD-set-other counts j k (getD longer j 0 - getD shorter j 0) 0 (omega arith) ∙ c .before .loop .inv .2 k l)
+          (getD-set-same counts j (getD longer j 0 - getD shorter j 0) 0 less),
+    )
 
 returns : tie.Need-returns Inv-loop μ-loop
 unfolding alphabetSize

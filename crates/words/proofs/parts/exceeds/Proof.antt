@@ -54,8 +54,8 @@ loop-again c =
     let j = at-loop .loop .j in
     let less : j < alphabetSize = c .before .loop-test .taken in
     let tested : eqb (c .if1 .found) 0 ≡ (noneAbove (take j u) (take j v) && leb (getD u j 0) (getD v j 0)) =
-        fails-more (at-loop .loop .found) (c .if1 .found) (noneAbove (take j u) (take j v)) (leb (getD u j 0) (getD v j 0)) (at-loop .loop .inv .2)
-        (⊎-elim (λ w. inl (lt-leb (getD u j 0) (getD v j 0) (w .0 .taken), w .1)) (λ w. inr (le-leb (getD u j 0) (getD v j 0) (w .0 .left), w .1)) (c .if1 .came)) in
+    fails-more (at-loop .loop .found) (c .if1 .found) (noneAbove (take j u) (take j v)) (leb (getD u j 0) (getD v j 0)) (at-loop .loop .inv .2)
+    (⊎-elim (λ w. inl (lt-leb (getD u j 0) (getD v j 0) (w .0 .taken), w .1)) (λ w. inr (le-leb (getD u j 0) (getD v j 0) (w .0 .left), w .1)) (c .if1 .came)) in
     (omega arith, ⊎-elim (λ w. omega arith) (λ w. omega arith) (c .if1 .came), rw add-one (tested ∙ sym (noneAbove-more u v j (omega arith) (omega arith))))
 
 returns : tie.Need-returns Inv-loop μ-loop

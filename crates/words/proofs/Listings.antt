@@ -1,4 +1,4 @@
--- General laws of a list call's answer: it is refused for its word, or for a slice that is too short, or writes its words.
+-- Laws of a list call's answer: it is refused for its word, or for a slice that is too short, or writes its words.
 use mathlib.Core.Path.{_≡_}
 use mathlib.Core.Bool.{false}
 use mathlib.Core.Option.{none, some}

@@ -1,0 +1,136 @@
+-- Laws of lists that are kept, tried and measured, one element after the other.
+use mathlib.Core.Path.{_≡_, refl, sym, ap, _∙_}
+use mathlib.Core.Bool.{Bool, true, false, _&&_}
+use mathlib.Core.List.{List, [], _∷_, _++_, append-nil, List·Memᴰ, List·Memᴰ·head, List·Memᴰ·tail, List·Memᴰ·cases-cons, List·Memᴰ·not-nil}
+use mathlib.Core.Logic.{_⊎_, inl, inr, ⊎-elim}
+use Prim.Native.Nat.{ℕ, zero, suc, _+_, _-_, _≤_, _<_, max}
+use native.Mathlib.Nat.{le-refl, le-trans, le-max-left, le-max-right}
+use native.Mathlib.Omega.{arith}
+use lib.ListN.{length, drop, getD, set, length-append, length-drop}
+use lib.Seq.{drop-cons, set-append-seam, append-snoc}
+use lib.Dec.{ltb}
+use borrow.Author.Tests.{ltb-true, ltb-false}
+use Rattle.abelian.specs.Lists.{upFrom, put, keep, all, largest}
+use Rattle.abelian.specs.Output.{fill}
+use Rattle.abelian.specs.FullPeriods.{distances}
+use Rattle.abelian.proofs.Lists.{upFrom-last}
+use Rattle.abelian.proofs.Tests.{decided}
+
+-- a number is below another or not
+pub below-or-not : (k i : ℕ) → (k < i) ⊎ (i ≤ k)
+below-or-not k i = ⊎-elim (λ e. inl (ltb-true k i e)) (λ e. inr (ltb-false k i e)) (decided (ltb k i))
+
+module _ {A : Type 0} (f : A → Bool) where
+  -- what two lists keep is kept of both, one behind the other
+  pub keep-append : (xs ys : List A) → keep f (xs ++ ys) ≡ keep f xs ++ keep f ys
+  keep-append [] ys = refl
+  keep-append (x ∷ xs) ys = rw (keep-append xs ys) (go (f x))
+    where
+      go : (b : Bool) → put b x (keep f xs ++ keep f ys) ≡ put b x (keep f xs) ++ keep f ys
+      go true = refl
+      go false = refl
+
+  -- two lists pass where both pass
+  pub all-append : (xs ys : List A) → all f (xs ++ ys) ≡ (all f xs && all f ys)
+  all-append [] ys = refl
+  all-append (x ∷ xs) ys = rw (all-append xs ys) (go (f x))
+    where
+      go : (b : Bool) → (b && (all f xs && all f ys)) ≡ ((b && all f xs) && all f ys)
+      go true = refl
+      go false = refl
+
+-- tests that agree on a list keep the same
+pub keep-agree : {A : Type 0} (f g : A → Bool) (xs : List A) → ((a : A) → List·Memᴰ a xs → f a ≡ g a) → keep f xs ≡ keep g xs
+keep-agree f g [] h = refl
+keep-agree f g (x ∷ xs) h =
+    let e : f x ≡ g x = h x (List·Memᴰ·head refl) in
+    let t : keep f xs ≡ keep g xs = keep-agree f g xs (λ a m. h a (List·Memᴰ·tail m)) in
+    rw (e, t)
+
+module _ (f : ℕ → Bool) (a n : ℕ) where
+  -- one number more that passes is kept behind the others
+  pub keep-more : f (a + n) ≡ true → keep f (upFrom a (suc n)) ≡ keep f (upFrom a n) ++ ((a + n) ∷ [])
+  keep-more e = ap (keep f) (upFrom-last a n) ∙ keep-append f (upFrom a n) ((a + n) ∷ []) ∙ rw e
+
+  -- one that fails is not
+  pub keep-no-more : f (a + n) ≡ false → keep f (upFrom a (suc n)) ≡ keep f (upFrom a n)
+  keep-no-more e = ap (keep f) (upFrom-last a n) ∙ keep-append f (upFrom a n) ((a + n) ∷ []) ∙ rw e (append-nil (keep f (upFrom a n)))
+
+  -- one number more leaves no fewer
+  keep-suc : length (keep f (upFrom a n)) ≤ length (keep f (upFrom a (suc n)))
+  keep-suc =
+      ⊎-elim
+      (λ (e : f (a + n) ≡ true). omega (arith, ap length (keep-more e), length-append (keep f (upFrom a n)) ((a + n) ∷ [])))
+      (λ (e : f (a + n) ≡ false). omega (arith, ap length (keep-no-more e))) (decided (f (a + n)))
+
+  -- one number more is tried behind the others
+  pub all-more : all f (upFrom a (suc n)) ≡ (all f (upFrom a n) && f (a + n))
+  all-more = ap (all f) (upFrom-last a n) ∙ all-append f (upFrom a n) ((a + n) ∷ []) ∙ ap (λ (b : Bool). all f (upFrom a n) && b) (go (f (a + n)))
+    where
+      go : (b : Bool) → (b && true) ≡ b
+      go true = refl
+      go false = refl
+
+-- more numbers leave no fewer
+pub keep-rises : (f : ℕ → Bool) (a n m : ℕ) → length (keep f (upFrom a n)) ≤ length (keep f (upFrom a (n + m)))
+keep-rises f a n zero = let e : n + 0 ≡ n = omega arith in rw e (le-refl (length (keep f (upFrom a n))))
+keep-rises f a n (suc m) =
+    let e : n + suc m ≡ suc (n + m) = omega arith in
+    let h : length (keep f (upFrom a n)) ≤ length (keep f (upFrom a (n + m))) = keep-rises f a n m in
+    let s : length (keep f (upFrom a (n + m))) ≤ length (keep f (upFrom a (suc (n + m)))) = keep-suc f a (n + m) in
+    rw e (le-trans h s)
+
+-- ---- an accepted list, word for word
+
+-- one word more in the first places
+pub fill-more : (ws : List ℕ) (v : ℕ) (out : List ℕ) → length ws < length out → set (fill ws out) (length ws) v ≡ fill (ws ++ (v ∷ [])) out
+unfolding fill
+fill-more ws v out h =
+    let e : suc (length ws) ≡ length (ws ++ (v ∷ [])) = omega (arith, length-append ws (v ∷ [])) in
+    ap (λ (l : List ℕ). set (ws ++ l) (length ws) v) (drop-cons out (length ws) 0 h)
+    ∙ set-append-seam ws (getD out (length ws) 0) (drop (suc (length ws)) out) v
+    ∙ sym (append-snoc ws v (drop (suc (length ws)) out))
+    ∙ ap (λ (k : ℕ). (ws ++ (v ∷ [])) ++ drop k out) e
+
+-- the slice keeps its length
+pub length-fill : (ws out : List ℕ) → length ws ≤ length out → length (fill ws out) ≡ length out
+unfolding fill
+length-fill ws out h = omega (arith, length-append ws (drop (length ws) out), length-drop (length ws) out)
+
+-- ---- the largest number, and distances between neighbours
+
+-- each number of a list is at most the largest
+pub le-largest : (xs : List ℕ) {x : ℕ} → List·Memᴰ x xs → x ≤ largest xs
+le-largest [] m = absurd (List·Memᴰ·not-nil m)
+le-largest (y ∷ xs) {x} m =
+    ⊎-elim (λ (q : x ≡ y). omega (arith, le-max-left y (largest xs)))
+    (λ m′. let h : x ≤ largest xs = le-largest xs m′ in omega (arith, le-max-right y (largest xs))) (List·Memᴰ·cases-cons m)
+
+-- what no number exceeds the largest does not exceed
+pub largest-le : (xs : List ℕ) (b : ℕ) → ((x : ℕ) → List·Memᴰ x xs → x ≤ b) → largest xs ≤ b
+largest-le [] b h = omega arith
+largest-le (y ∷ xs) b h =
+    let i : y ≤ b = h y (List·Memᴰ·head refl) in
+    let t : largest xs ≤ b = largest-le xs b (λ x m. h x (List·Memᴰ·tail m)) in
+    omega arith
+
+-- the largest with one number more
+pub largest-more : (xs : List ℕ) (x : ℕ) → largest (xs ++ (x ∷ [])) ≡ max (largest xs) x
+largest-more [] x = omega arith
+largest-more (y ∷ xs) x = let e : largest (xs ++ (x ∷ [])) ≡ max (largest xs) x = largest-more xs x in omega arith
+
+-- the last number of a list, or x where there is none
+unfoldable pub lastOf : ℕ → List ℕ → ℕ
+lastOf x [] = x
+lastOf x (y ∷ ys) = lastOf y ys
+
+pub lastOf-more : (x : ℕ) (ys : List ℕ) (z : ℕ) → lastOf x (ys ++ (z ∷ [])) ≡ z
+unfolding lastOf
+lastOf-more x [] z = refl
+lastOf-more x (y ∷ ys) z = lastOf-more y ys z
+
+-- one number more behind the others is one distance more, from the last of them
+pub distances-more : (x : ℕ) (ys : List ℕ) (z : ℕ) → distances x (ys ++ (z ∷ [])) ≡ distances x ys ++ ((z - lastOf x ys) ∷ [])
+unfolding distances lastOf
+distances-more x [] z = refl
+distances-more x (y ∷ ys) z = ap (λ (l : List ℕ). (y - x) ∷ l) (distances-more y ys z)

@@ -1,0 +1,23 @@
+-- `full_periods::count_full` meets its contract: the path's table is that of the full periods. Assumes nothing.
+use mathlib.Core.Path.{ap, _∙_}
+use lib.ListN.{length}
+use borrow.Author.Needs.{needs}
+use Rattle.full_periods.specs.declared.scaled.ScaledPath.{ScaledPath}
+use Rattle.full_periods.proofs.Listing.{marked-full}
+use Rattle.full_periods.proofs.count_full.Statement.{statement}
+use Rattle.full_periods.proofs.count_full.Tie as tie
+
+find-path-requires : tie.Need-find-path-requires
+find-path-requires c κs = search needs
+
+count-marked-requires : tie.Need-count-marked-requires
+count-marked-requires c κs = search needs
+
+returns : tie.Need-returns
+returns c =
+    let start = c .before .before .before .before .before in
+    let path = c .before .before .before .find-path in
+    c .count-marked .ensures ∙ ap length (marked-full (start .args .word .now) (path .result .marks) (start .pre .1) (ap (λ (x : ScaledPath). x .marks) (path .ensures)))
+
+pub count-full-spec : {M : Type 1} → statement M
+count-full-spec = tie.close (tie.spec find-path-requires count-marked-requires returns)

@@ -1,0 +1,71 @@
+// Multiples and divisors of count vectors.
+use abelian::LETTERS;
+ghost use mathlib.Core.Path.{_≡_};
+ghost use mathlib.Core.List.{[], _∷_};
+ghost use Prim.Native.Nat.{_≤_, _<_};
+ghost use Rattle.abelian.specs.Words.{longest};
+ghost use Rattle.full_periods.specs.Divisors.{GreatestDivisor, divided, isMultiple};
+
+// A count as a number of the word's positions.
+fn wide(count: u8) -> usize
+    ensures { λ r. ⌜ (r ≡ count) × (r < 256) ⌝ }
+{
+    count as usize
+}
+
+// Whether each count is so many times that of the unit. Every letter is looked at, so that the loop has no exit inside a vector.
+pub(crate) fn is_multiple(counts: [u8; LETTERS], times: usize, unit: [u8; LETTERS]) -> bool
+    requires { ⌜ times ≤ longest ⌝ }
+    ensures { λ r. ⌜ r ≡ isMultiple counts times unit ⌝ }
+{
+    let mut differing: u8 = 0;
+    let mut j = 0;
+    while j < LETTERS {
+        if wide(counts[j]) != times * wide(unit[j]) {
+            differing += 1;
+        }
+        j += 1;
+    }
+    differing == 0
+}
+
+// The greatest common divisor of two numbers, by Euclid's algorithm.
+fn common_divisor(a: u8, b: u8) -> u8
+    ensures { λ r. ⌜ GreatestDivisor (a ∷ b ∷ []) r ⌝ }
+{
+    let mut x = a;
+    let mut y = b;
+    while y != 0 {
+        let rest = x % y;
+        x = y;
+        y = rest;
+    }
+    x
+}
+
+// The greatest common divisor of the counts; 0 where all of them are 0.
+pub(crate) fn count_divisor(counts: [u8; LETTERS]) -> u8
+    ensures { λ r. ⌜ GreatestDivisor counts r ⌝ }
+{
+    let mut g: u8 = 0;
+    let mut place = 0;
+    while place < LETTERS {
+        g = common_divisor(g, counts[place]);
+        place += 1;
+    }
+    g
+}
+
+// The counts, each divided by g.
+pub(crate) fn divide(counts: [u8; LETTERS], g: u8) -> [u8; LETTERS]
+    requires { ⌜ 1 ≤ g ⌝ }
+    ensures { λ r. ⌜ r ≡ divided counts g ⌝ }
+{
+    let mut unit = counts;
+    let mut j = 0;
+    while j < LETTERS {
+        unit[j] = counts[j] / g;
+        j += 1;
+    }
+    unit
+}
