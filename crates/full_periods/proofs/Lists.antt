@@ -13,7 +13,7 @@ use borrow.Author.Tests.{ltb-true, ltb-false}
 use Rattle.abelian.specs.Lists.{upFrom, put, keep, all, largest}
 use Rattle.abelian.specs.Output.{fill}
 use Rattle.abelian.specs.FullPeriods.{distances}
-use Rattle.abelian.proofs.Lists.{upFrom-last}
+use Rattle.abelian.proofs.Lists.{upFrom-last, keep-append}
 use Rattle.abelian.proofs.Tests.{decided}
 
 -- a number is below another or not
@@ -21,15 +21,6 @@ pub below-or-not : (k i : ℕ) → (k < i) ⊎ (i ≤ k)
 below-or-not k i = ⊎-elim (λ e. inl (ltb-true k i e)) (λ e. inr (ltb-false k i e)) (decided (ltb k i))
 
 module _ {A : Type 0} (f : A → Bool) where
-  -- what two lists keep is kept of both, one behind the other
-  pub keep-append : (xs ys : List A) → keep f (xs ++ ys) ≡ keep f xs ++ keep f ys
-  keep-append [] ys = refl
-  keep-append (x ∷ xs) ys = rw (keep-append xs ys) (go (f x))
-    where
-      go : (b : Bool) → put b x (keep f xs ++ keep f ys) ≡ put b x (keep f xs) ++ keep f ys
-      go true = refl
-      go false = refl
-
   -- two lists pass where both pass
   pub all-append : (xs ys : List A) → all f (xs ++ ys) ≡ (all f xs && all f ys)
   all-append [] ys = refl
@@ -38,14 +29,6 @@ module _ {A : Type 0} (f : A → Bool) where
       go : (b : Bool) → (b && (all f xs && all f ys)) ≡ ((b && all f xs) && all f ys)
       go true = refl
       go false = refl
-
--- tests that agree on a list keep the same
-pub keep-agree : {A : Type 0} (f g : A → Bool) (xs : List A) → ((a : A) → List·Memᴰ a xs → f a ≡ g a) → keep f xs ≡ keep g xs
-keep-agree f g [] h = refl
-keep-agree f g (x ∷ xs) h =
-    let e : f x ≡ g x = h x (List·Memᴰ·head refl) in
-    let t : keep f xs ≡ keep g xs = keep-agree f g xs (λ a m. h a (List·Memᴰ·tail m)) in
-    rw (e, t)
 
 module _ (f : ℕ → Bool) (a n : ℕ) where
   -- one number more that passes is kept behind the others

@@ -14,10 +14,10 @@ use Rattle.abelian.specs.Lists.{one, upFrom, keep, largest}
 use Rattle.abelian.specs.Words.{longest}
 use Rattle.abelian.specs.FullPeriods.{distances}
 use Rattle.abelian.proofs.Tests.{decided}
-use Rattle.abelian.proofs.Lists.{length-upFrom, mem-upFrom}
+use Rattle.abelian.proofs.Lists.{length-upFrom, mem-upFrom, keep-agree}
 use Rattle.words.proofs.Vectors.{map-upFrom-at}
 use Rattle.full_periods.specs.Marks.{marks, isMarked, marked}
-use Rattle.full_periods.proofs.Lists.{below-or-not, keep-agree, keep-rises, keep-more, keep-no-more, largest-more, lastOf, lastOf-more, distances-more}
+use Rattle.full_periods.proofs.Lists.{below-or-not, keep-rises, keep-more, keep-no-more, largest-more, lastOf, lastOf-more, distances-more}
 
 -- ---- a table
 

@@ -14,7 +14,8 @@ use Rattle.abelian.specs.Output.{fill}
 use Rattle.abelian.specs.Answers.{writing}
 use Rattle.abelian.specs.Calls.{fullWords, fullListing}
 use Rattle.words.proofs.Refusals.{accepted-none, refused-some, accepted-length, accepted-letters}
-use Rattle.full_periods.proofs.Listing.{listing-refused, listing-short, listing-written, marked-words, marked-count}
+use Rattle.words.proofs.Listings.{listing-refused, listing-short, listing-written}
+use Rattle.full_periods.proofs.Listing.{marked-words, marked-count}
 use Rattle.full_periods.proofs.list_full.Statement.{statement}
 use Rattle.full_periods.proofs.list_full.Tie as tie
 

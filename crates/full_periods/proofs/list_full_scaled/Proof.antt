@@ -17,7 +17,8 @@ use Rattle.words.proofs.Refusals.{accepted-none, refused-some, accepted-length,
 use Rattle.abelian.specs.FullPeriods.{scale, scaledGap}
 use Rattle.full_periods.specs.declared.scaled.ScaledPath.{ScaledPath}
 use Rattle.full_periods.specs.Marks.{fullMarks}
-use Rattle.full_periods.proofs.Listing.{listing-refused, listing-short, listing-written, marked-words, marked-count}
+use Rattle.words.proofs.Listings.{listing-refused, listing-short, listing-written}
+use Rattle.full_periods.proofs.Listing.{marked-words, marked-count}
 use Rattle.full_periods.proofs.list_full_scaled.Statement.{statement}
 use Rattle.full_periods.proofs.list_full_scaled.Tie as tie
 
