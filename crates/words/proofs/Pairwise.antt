@@ -4,31 +4,41 @@ use mathlib.Core.Bool.{Bool, true, false, _&&_, and-assoc, and-true, and-false}
 use mathlib.Core.Logic.{_⊎_, inl, inr}
 use mathlib.Core.List.{List, [], _∷_}
 use Prim.Native.Nat.{ℕ, zero, suc, _+_, _-_, _≤_, _<_}
+use native.Mathlib.Numerals.{add-one}
 use native.Mathlib.Omega.{arith}
 use lib.ListN.{length, take, getD}
+use lib.Seq.{take-all}
 use lib.Dec.{T, leb, eqb, leb→le}
 use borrow.Author.Tests.{ne-eqb}
-use Rattle.abelian.specs.Lists.{same}
 use Rattle.abelian.specs.Words.{noneAbove}
 use Rattle.abelian.proofs.Tests.{left, right}
 use Rattle.words.specs.Differences.{minus}
 
--- a test that goes through two lists place by place: over one place more it is the test so far and that at the place
+-- a test that goes through two lists place by place, and a count of the places at which it fails: the count is 0 exactly where the test passes
 module _ (test : ℕ → ℕ → Bool) (through : List ℕ → List ℕ → Bool) (none : through [] [] ≡ true)
     (cons : (a b : ℕ) (u v : List ℕ) → through (a ∷ u) (b ∷ v) ≡ (test a b && through u v)) where
-  more : (u v : List ℕ) (j : ℕ) → j < length u → j < length v → through (take (suc j) u) (take (suc j) v) ≡ (through (take j u) (take j v) && test (getD u j 0) (getD v j 0))
-  more [] v j l m = absurd (omega arith)
-  more (a ∷ u) [] j l m = absurd (omega arith)
-  more (a ∷ u) (b ∷ v) zero l m = rw (cons a b [] [], none) (and-true (test a b))
-  more (a ∷ u) (b ∷ v) (suc j) l m =
-      rw (cons, cons, more u v j (omega arith) (omega arith)) (sym (and-assoc (test a b) (through (take j u) (take j v)) (test (getD u j 0) (getD v j 0))))
+  through-more : (u v : List ℕ) (j : ℕ) → j < length u → j < length v → through (take (suc j) u) (take (suc j) v) ≡ (through (take j u) (take j v) && test (getD u j 0) (getD v j 0))
+  through-more [] v j l m = absurd (omega arith)
+  through-more (a ∷ u) [] j l m = absurd (omega arith)
+  through-more (a ∷ u) (b ∷ v) zero l m = rw (cons a b [] [], none) (and-true (test a b))
+  through-more (a ∷ u) (b ∷ v) (suc j) l m =
+      rw (cons, cons, through-more u v j (omega arith) (omega arith)) (sym (and-assoc (test a b) (through (take j u) (take j v)) (test (getD u j 0) (getD v j 0))))
 
-pub noneAbove-more : (u v : List ℕ) (j : ℕ) → j < length u → j < length v → noneAbove (take (suc j) u) (take (suc j) v) ≡ (noneAbove (take j u) (take j v) && leb (getD u j 0) (getD v j 0))
-unfolding noneAbove
-noneAbove-more = more leb noneAbove refl (λ a b u v. refl)
+  module _ (u v : List ℕ) (found : ℕ) where
+    -- one place more
+    pub fails-more : (j found′ : ℕ) → j < length u → j < length v → eqb found 0 ≡ through (take j u) (take j v)
+        → ((test (getD u j 0) (getD v j 0) ≡ false) × (found′ ≡ found + 1)) ⊎ ((test (getD u j 0) (getD v j 0) ≡ true) × (found′ ≡ found))
+        → eqb found′ 0 ≡ through (take (j + 1) u) (take (j + 1) v)
+    fails-more j found′ l m e came = rw (add-one, through-more u v j l m) (step came)
+      where
+        step : ((test (getD u j 0) (getD v j 0) ≡ false) × (found′ ≡ found + 1)) ⊎ ((test (getD u j 0) (getD v j 0) ≡ true) × (found′ ≡ found))
+            → eqb found′ 0 ≡ (through (take j u) (take j v) && test (getD u j 0) (getD v j 0))
+        step (inl w) = rw (w .0, w .1, and-false) (ne-eqb (found + 1) 0 (omega arith))
+        step (inr w) = rw (w .0, w .1, and-true) e
 
-pub same-more : (u v : List ℕ) (j : ℕ) → j < length u → j < length v → same (take (suc j) u) (take (suc j) v) ≡ (same (take j u) (take j v) && eqb (getD u j 0) (getD v j 0))
-same-more = more eqb same refl (λ a b u v. refl)
+    -- all places
+    pub fails-all : (j : ℕ) → length u ≤ j → length v ≤ j → eqb found 0 ≡ through (take j u) (take j v) → eqb found 0 ≡ through u v
+    fails-all j l m e = rw (take-all j u l, take-all j v m) at e
 
 -- where no count is above, that at each place is not
 pub noneAbove-at : (u v : List ℕ) → T (noneAbove u v) → (j : ℕ) → j < length u → getD u j 0 ≤ getD v j 0
@@ -52,8 +62,3 @@ unfolding minus
 length-minus [] v e = refl
 length-minus (a ∷ u) [] e = absurd (omega arith)
 length-minus (a ∷ u) (b ∷ v) e = ap suc (length-minus u v (omega arith))
-
--- a count of the places at which a test fails is 0 exactly where it passes at all of them: one place more
-pub fails-more : (found found′ : ℕ) (passed at : Bool) → eqb found 0 ≡ passed → ((at ≡ false) × (found′ ≡ found + 1)) ⊎ ((at ≡ true) × (found′ ≡ found)) → eqb found′ 0 ≡ (passed && at)
-fails-more found found′ passed at e (inl w) = rw (w .0, w .1, and-false) (ne-eqb (found + 1) 0 (omega arith))
-fails-more found found′ passed at e (inr w) = rw (w .0, w .1, and-true) e

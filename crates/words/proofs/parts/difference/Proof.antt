@@ -1,3 +1,5 @@
+-- `words::parts::difference` meets its contract. The invariant of its loop: the counts of the letters passed are the differences. The measure is
+-- what is left of the letters. Assumes nothing.
 use mathlib.Core.List.{List}
 use Prim.Native.Nat.{ℕ, _≤_, _<_, _-_}
 use mathlib.Core.Path.{_≡_, refl, sym, ap, _∙_}

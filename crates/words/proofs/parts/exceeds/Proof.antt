@@ -1,17 +1,16 @@
-use Prim.Native.Nat.{ℕ, _≤_, _<_, _-_}
-use mathlib.Core.Bool.{not, _&&_}
+-- `words::parts::exceeds` meets its contract. The invariant of its loop: the letters passed at which the first count is above are counted. The measure is what
+-- is left of the letters. Assumes nothing.
+use mathlib.Core.Path.{_≡_, refl, ap}
+use mathlib.Core.Bool.{not}
 use mathlib.Core.Logic.{inl, inr, ⊎-elim}
-use mathlib.Core.Path.{_≡_, refl, sym, ap, _∙_}
-use native.Mathlib.Numerals.{add-one}
+use Prim.Native.Nat.{ℕ, _≤_, _-_}
 use native.Mathlib.Omega.{arith}
-use lib.ListN.{length, take, getD}
-use lib.Seq.{take-all}
+use lib.ListN.{take, getD}
 use lib.Dec.{eqb, leb}
-use borrow.Author.Tests.{lt-leb, le-leb, ne-eqb, eq-eqb}
+use borrow.Author.Tests.{lt-leb, le-leb}
 use borrow.Author.Needs.{needs}
-use Rattle.abelian.specs.Lists.{same}
 use Rattle.abelian.specs.Words.{alphabetSize, noneAbove}
-use Rattle.words.proofs.Pairwise.{fails-more, noneAbove-more}
+use Rattle.words.proofs.Pairwise.{fails-more, fails-all}
 use Rattle.words.proofs.parts.exceeds.Statement.{statement}
 use Rattle.words.proofs.parts.exceeds.Tie as tie
 
@@ -46,26 +45,21 @@ unfolding alphabetSize
 loop-less c = search needs
 
 loop-again : tie.Need-loop-again Inv-loop μ-loop
-unfolding alphabetSize
+unfolding alphabetSize noneAbove
 loop-again c =
     let at-loop = c .before .before in
     let u = at-loop .before .args .t1 in
     let v = at-loop .before .args .t2 in
     let j = at-loop .loop .j in
-    let less : j < alphabetSize = c .before .loop-test .taken in
-    let tested : eqb (c .if1 .found) 0 ≡ (noneAbove (take j u) (take j v) && leb (getD u j 0) (getD v j 0)) =
-    fails-more (at-loop .loop .found) (c .if1 .found) (noneAbove (take j u) (take j v)) (leb (getD u j 0) (getD v j 0)) (at-loop .loop .inv .2)
-    (⊎-elim (λ w. inl (lt-leb (getD u j 0) (getD v j 0) (w .0 .taken), w .1)) (λ w. inr (le-leb (getD u j 0) (getD v j 0) (w .0 .left), w .1)) (c .if1 .came)) in
-    (omega arith, ⊎-elim (λ w. omega arith) (λ w. omega arith) (c .if1 .came), rw add-one (tested ∙ sym (noneAbove-more u v j (omega arith) (omega arith))))
+    (omega arith, ⊎-elim (λ w. omega arith) (λ w. omega arith) (c .if1 .came),
+    fails-more leb noneAbove refl (λ a b u v. refl) u v (at-loop .loop .found) j (c .if1 .found) (omega arith) (omega arith) (at-loop .loop .inv .2)
+    (⊎-elim (λ w. inl (lt-leb (getD u j 0) (getD v j 0) (w .0 .taken), w .1)) (λ w. inr (le-leb (getD u j 0) (getD v j 0) (w .0 .left), w .1)) (c .if1 .came)))
 
 returns : tie.Need-returns Inv-loop μ-loop
-unfolding alphabetSize
+unfolding alphabetSize noneAbove
 returns c =
-    let u = c .before .before .args .t1 in
-    let v = c .before .before .args .t2 in
-    let e : c .before .loop .j ≡ alphabetSize = omega arith in
-    let tested : eqb (c .before .loop .found) 0 ≡ noneAbove (take alphabetSize u) (take alphabetSize v) = rw e at (c .before .loop .inv .2) in
-    ap not (rw (take-all alphabetSize u (omega arith), take-all alphabetSize v (omega arith)) at tested)
+    let start = c .before .before in
+    ap not (fails-all leb noneAbove refl (λ a b u v. refl) (start .args .t1) (start .args .t2) (c .before .loop .found) (c .before .loop .j) (omega arith) (omega arith) (c .before .loop .inv .2))
 
 pub exceeds-spec : {M : Type 1} → statement M
 exceeds-spec =
