@@ -24,10 +24,14 @@ firstFailure (f ∷ fs) = deciding 0 (f .block) (f .letter) 0
 unfoldable pub judging : List ℕ → Pair → Answer
 judging w x = unless (wordRefusal w (not (inRange (length w) x)) 0 0) [] (firstFailure (failures w x))
 
--- A list call: refusals 1, 2, 3, else the words in the first places, their number, and the numbers that belong to the call.
+-- An accepted list: the words in the first places, their number, and the numbers that belong to the call.
+abbrev pub writingWords : List ℕ → ℕ → ℕ → ℕ → List ℕ → Answer
+writingWords ws trials s t out = writing (length ws) trials s t (fill ws out)
+
+-- A list call: refusals 1, 2, 3, else the list.
 unfoldable pub listing : List ℕ → List ℕ → List ℕ → ℕ → ℕ → ℕ → Answer
 listing w out ws trials s t =
-    unless (wordRefusal w false (length ws) (length out)) out (writing (length ws) trials s t (fill ws out))
+    unless (wordRefusal w false (length ws) (length out)) out (writingWords ws trials s t out)
 
 -- the words of the Abelian periods, in pair order
 unfoldable pub periodWords : List ℕ → List ℕ

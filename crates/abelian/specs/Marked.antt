@@ -1,11 +1,11 @@
 -- The marked words: document 01's P1 to P11, and more rows for clauses that these leave untried. Each row is tried by the definitions
 -- alone.
 use Prim.Native.Nat.{ℕ, suc, _+_, _-_}
-use mathlib.Core.Bool.{Bool, true, false, _&&_, _||_}
+use mathlib.Core.Bool.{Bool, false, _&&_, _||_}
 use mathlib.Core.List.{List, [], _∷_, map}
 use lib.ListN.{length, take, replicate}
 use lib.Dec.{eqb}
-use Rattle.abelian.specs.Lists.{pick, same, all, largest}
+use Rattle.abelian.specs.Lists.{pick, same, largest}
 use Rattle.abelian.specs.Words.{alphabetSize, firstLetter, longest}
 use Rattle.abelian.specs.Periods.{Pair, pair, pairs}
 use Rattle.abelian.specs.Output.{periodWord, squareWord}
@@ -212,5 +212,7 @@ more =
     -- trackers that no calls have made: an add keeps entries above 0, a take-back reopens those equal to the length, a clear all
     ∷ boardIs (then (made 1 (a ∷ 0 ∷ []) (0 ∷ 9 ∷ 0 ∷ [])) b) (2 ∷ 9 ∷ 0 ∷ [])
     ∷ boardIs (back (made 1 (a ∷ []) (5 ∷ 1 ∷ 0 ∷ []))) (5 ∷ 0 ∷ 0 ∷ [])
+    -- a list reads the board alone: an entry above 0 is not listed, whatever the letters are
+    ∷ tracks (made 2 (a ∷ a ∷ 0 ∷ []) (7 ∷ 0 ∷ [])) (a ∷ a ∷ 0 ∷ []) (pair 0 1) 7 (pair 0 2 ∷ [])
     ∷ tracks (clearing (made 241 [] []) .tracker) (0 ∷ []) (pair 0 1) 0 []
     ∷ []

@@ -35,7 +35,7 @@ pub record Condition : Type 0 where
   pub holds : Bool
   pub refusal : Refusal
 
-abbrev condition : Bool → Refusal → Condition
+abbrev pub condition : Bool → Refusal → Condition
 condition b r = record { holds = b; refusal = r }
 
 -- the refusal of the first condition that holds

@@ -1,6 +1,6 @@
 -- The tracker's calls, for every tracker, also one that no calls have made.
 use Prim.Native.Nat.{ℕ, suc, _-_}
-use mathlib.Core.Bool.{Bool, true, false, not, _&&_, _||_}
+use mathlib.Core.Bool.{Bool, false, not, _&&_, _||_}
 use mathlib.Core.Option.{Option, none, some}
 use mathlib.Core.List.{List, [], _∷_, map}
 use lib.ListN.{length, take, set, replicate}
@@ -8,9 +8,10 @@ use lib.Dec.{eqb, ltb}
 use Rattle.abelian.specs.Lists.{pick, put}
 use Rattle.abelian.specs.Words.{alphabetSize, longest, isLetter, ofLetters}
 use Rattle.abelian.specs.Periods.{Pair, inRange, pairs, isPeriod}
-use Rattle.abelian.specs.Output.{periodWord, fill}
+use Rattle.abelian.specs.Output.{periodWord}
 use Rattle.abelian.specs.Refusals.{trackerRefusal}
-use Rattle.abelian.specs.Answers.{Answer, refusing, writing, accepting, unless}
+use Rattle.abelian.specs.Answers.{Answer, refusing, accepting}
+use Rattle.abelian.specs.Calls.{writingWords}
 use Rattle.abelian.specs.declared.Refusal.{Refusal}
 use Rattle.abelian.specs.declared.Tracker.{Tracker}
 
@@ -92,4 +93,4 @@ unfoldable pub trackerListing : Tracker → List ℕ → Step
 trackerListing t out =
     let ws : List ℕ = map periodWord (openPairs (t .len) (t .board)) in
     stepUnless (trackerRefusal (damaged t) false false false (length ws) (length out)) out t
-    (record { tracker = t; answer = writing (length ws) 0 0 0 (fill ws out) })
+    (record { tracker = t; answer = writingWords ws 0 0 0 out })

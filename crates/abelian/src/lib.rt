@@ -16,9 +16,11 @@ pub const LONGEST: usize = 240;
 pub const BOARD: usize = 14520;
 
 // The length of a head.
+#[repr(C)]
 pub struct Head(pub usize);
 
 // The length of a block.
+#[repr(C)]
 pub struct Period(pub usize);
 
 // Why a call was refused, in the order of document 01's table. A case that has a value holds it.

@@ -1,17 +1,14 @@
 -- Laws of lists that are kept, tried and measured, one element after the other.
-use mathlib.Core.Path.{_≡_, refl, sym, ap, _∙_}
+use mathlib.Core.Path.{_≡_, refl, ap, _∙_}
 use mathlib.Core.Bool.{Bool, true, false, _&&_}
 use mathlib.Core.List.{List, [], _∷_, _++_, append-nil, List·Memᴰ, List·Memᴰ·head, List·Memᴰ·tail, List·Memᴰ·cases-cons, List·Memᴰ·not-nil}
 use mathlib.Core.Logic.{_⊎_, inl, inr, ⊎-elim}
-use Prim.Native.Nat.{ℕ, zero, suc, _+_, _-_, _≤_, _<_, max}
-use native.Mathlib.Nat.{le-refl, le-trans, le-max-left, le-max-right}
+use Prim.Native.Nat.{ℕ, suc, _+_, _-_, _≤_, _<_, max}
+use native.Mathlib.Nat.{le-max-left, le-max-right}
 use native.Mathlib.Omega.{arith}
-use lib.ListN.{length, drop, getD, set, length-append, length-drop}
-use lib.Seq.{drop-cons, set-append-seam, append-snoc}
 use lib.Dec.{ltb}
 use borrow.Author.Tests.{ltb-true, ltb-false}
-use Rattle.abelian.specs.Lists.{upFrom, put, keep, all, largest}
-use Rattle.abelian.specs.Output.{fill}
+use Rattle.abelian.specs.Lists.{upFrom, keep, all, largest}
 use Rattle.abelian.specs.FullPeriods.{distances}
 use Rattle.abelian.proofs.Lists.{upFrom-last, keep-append}
 use Rattle.abelian.proofs.Tests.{decided}
@@ -39,13 +36,6 @@ module _ (f : ℕ → Bool) (a n : ℕ) where
   pub keep-no-more : f (a + n) ≡ false → keep f (upFrom a (suc n)) ≡ keep f (upFrom a n)
   keep-no-more e = ap (keep f) (upFrom-last a n) ∙ keep-append f (upFrom a n) ((a + n) ∷ []) ∙ rw e (append-nil (keep f (upFrom a n)))
 
-  -- one number more leaves no fewer
-  keep-suc : length (keep f (upFrom a n)) ≤ length (keep f (upFrom a (suc n)))
-  keep-suc =
-      ⊎-elim
-      (λ (e : f (a + n) ≡ true). omega (arith, ap length (keep-more e), length-append (keep f (upFrom a n)) ((a + n) ∷ [])))
-      (λ (e : f (a + n) ≡ false). omega (arith, ap length (keep-no-more e))) (decided (f (a + n)))
-
   -- one number more is tried behind the others
   pub all-more : all f (upFrom a (suc n)) ≡ (all f (upFrom a n) && f (a + n))
   all-more = ap (all f) (upFrom-last a n) ∙ all-append f (upFrom a n) ((a + n) ∷ []) ∙ ap (λ (b : Bool). all f (upFrom a n) && b) (go (f (a + n)))
@@ -53,32 +43,6 @@ module _ (f : ℕ → Bool) (a n : ℕ) where
       go : (b : Bool) → (b && true) ≡ b
       go true = refl
       go false = refl
-
--- more numbers leave no fewer
-pub keep-rises : (f : ℕ → Bool) (a n m : ℕ) → length (keep f (upFrom a n)) ≤ length (keep f (upFrom a (n + m)))
-keep-rises f a n zero = let e : n + 0 ≡ n = omega arith in rw e (le-refl (length (keep f (upFrom a n))))
-keep-rises f a n (suc m) =
-    let e : n + suc m ≡ suc (n + m) = omega arith in
-    let h : length (keep f (upFrom a n)) ≤ length (keep f (upFrom a (n + m))) = keep-rises f a n m in
-    let s : length (keep f (upFrom a (n + m))) ≤ length (keep f (upFrom a (suc (n + m)))) = keep-suc f a (n + m) in
-    rw e (le-trans h s)
-
--- ---- an accepted list, word for word
-
--- one word more in the first places
-pub fill-more : (ws : List ℕ) (v : ℕ) (out : List ℕ) → length ws < length out → set (fill ws out) (length ws) v ≡ fill (ws ++ (v ∷ [])) out
-unfolding fill
-fill-more ws v out h =
-    let e : suc (length ws) ≡ length (ws ++ (v ∷ [])) = omega (arith, length-append ws (v ∷ [])) in
-    ap (λ (l : List ℕ). set (ws ++ l) (length ws) v) (drop-cons out (length ws) 0 h)
-    ∙ set-append-seam ws (getD out (length ws) 0) (drop (suc (length ws)) out) v
-    ∙ sym (append-snoc ws v (drop (suc (length ws)) out))
-    ∙ ap (λ (k : ℕ). (ws ++ (v ∷ [])) ++ drop k out) e
-
--- the slice keeps its length
-pub length-fill : (ws out : List ℕ) → length ws ≤ length out → length (fill ws out) ≡ length out
-unfolding fill
-length-fill ws out h = omega (arith, length-append ws (drop (length ws) out), length-drop (length ws) out)
 
 -- ---- the largest number, and distances between neighbours
 

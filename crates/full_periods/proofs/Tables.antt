@@ -17,7 +17,8 @@ use Rattle.abelian.proofs.Tests.{decided}
 use Rattle.abelian.proofs.Lists.{length-upFrom, mem-upFrom, keep-agree}
 use Rattle.words.proofs.Vectors.{map-upFrom-at}
 use Rattle.full_periods.specs.Marks.{marks, isMarked, marked}
-use Rattle.full_periods.proofs.Lists.{below-or-not, keep-rises, keep-more, keep-no-more, largest-more, lastOf, lastOf-more, distances-more}
+use Rattle.words.proofs.Lists.{keep-rises}
+use Rattle.full_periods.proofs.Lists.{below-or-not, keep-more, keep-no-more, largest-more, lastOf, lastOf-more, distances-more}
 
 -- ---- a table
 
@@ -116,7 +117,7 @@ other-not-marked table k n = ne-eqb (getD table k 0) 1 n
 -- up to a greater number no fewer are marked
 pub marked-rises : (table : List ℕ) {k n : ℕ} → k ≤ n → length (marked k table) ≤ length (marked n table)
 unfolding marked
-marked-rises table {k} {n} h = let e : k + (n - k) ≡ n = omega arith in rw e at (keep-rises (isMarked table) 1 k (n - k))
+marked-rises table h = keep-rises (isMarked table) 1 h
 
 module _ (table : List ℕ) (k : ℕ) (l : 1 ≤ k) where
   pub marked-more : isMarked table k ≡ true → marked (k + 1 - 1) table ≡ marked (k - 1) table ++ (k ∷ [])

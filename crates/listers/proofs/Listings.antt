@@ -1,36 +1,35 @@
 -- Laws of listings: an accepted word's list, and what a board of zeros holds after its pairs have been ended.
 use mathlib.Core.Path.{_≡_, refl, sym, ap, ap₂, _∙_}
 use mathlib.Core.Logic.{⊎-elim}
-use mathlib.Core.Bool.{Bool, true, false, not, _&&_}
-use mathlib.Core.Option.{Option, none, some}
+use mathlib.Core.Bool.{true, false, _&&_}
+use mathlib.Core.Option.{none}
 use mathlib.Core.List.{List, [], _∷_, map}
-use Prim.Native.Nat.{ℕ, zero, suc, _≤_, _<_}
+use Prim.Native.Nat.{ℕ, _≤_}
 use native.Mathlib.Omega.{arith}
 use lib.ListN.{length, getD, replicate, length-replicate, getD-replicate}
 use lib.Dec.{T, eqb, ltb}
 use borrow.Author.Tests.{ltb-true, ltb-false, leb-true, leb-false, ne-eqb}
-use Rattle.abelian.specs.Lists.{pick, keep}
+use Rattle.abelian.specs.Lists.{keep}
 use Rattle.abelian.specs.Words.{longest, ofLetters}
 use Rattle.abelian.specs.Periods.{Pair, inRange, pairs, isPeriod, periods}
 use Rattle.abelian.specs.Output.{periodWord}
 use Rattle.abelian.specs.Trials.{plainTrials, isCandidate, candidates, skippingTrials}
 use Rattle.abelian.specs.EndedLengths.{boardOf}
 use Rattle.abelian.specs.Refusals.{wordRefusal}
-use Rattle.abelian.specs.Answers.{writing, unless}
 use Rattle.abelian.specs.Calls.{listing, periodWords, plainListing, skippingListing}
 use Rattle.abelian.specs.Trackers.{boardSize, openPairs, entries, entryAdded}
 use Rattle.abelian.proofs.Tests.{is-true, is-false, fails, decided}
 use Rattle.abelian.proofs.Lists.{keep-agree}
-use Rattle.abelian.proofs.Pairs.{InRange, in-range, range-in, pairs-in-range}
+use Rattle.abelian.proofs.Pairs.{InRange, in-range, pairs-in-range}
 use Rattle.words.proofs.Refusals.{accepted-length, accepted-letters}
 use Rattle.words.proofs.Listings.{listing-short, listing-written}
 use Rattle.board.specs.Places.{placeOf, entryAt}
 use Rattle.board.specs.Ending.{allEnded}
-use Rattle.board.proofs.Places.{place-below, boardOf-agree, entries-of, pairsWhere-boardOf, keep-in-range, board-of-entries, entries-boardOf}
+use Rattle.board.proofs.Places.{place-below, boardOf-agree, pairsWhere-boardOf, keep-in-range, board-of-entries, entries-boardOf}
 use Rattle.board.proofs.EndedRows.{ended-kept, period-kept, open-ended}
 use Rattle.listers.specs.OpenListing.{wordsListed, openListing}
 use Rattle.listers.specs.Lowest.{lowestPeriods}
-use Rattle.listers.specs.Passing.{entryPassed, allPassed}
+use Rattle.listers.specs.Passing.{entryPassed, allPassed, othersPassed}
 use Rattle.listers.proofs.LowestPeriods.{candidate-entry}
 use Rattle.listers.proofs.Skipping.{period-candidate}
 use Rattle.listers.proofs.Passed.{tried-kept, below-passed}
@@ -103,8 +102,8 @@ module _ (w : List ℕ) (t : T (ofLetters w)) (l : length w ≤ longest) where
   entry x = entryPassed (length w) (lowestPeriods w) x 0
 
   -- a board of zeros after pairs have been passed over
-  passed-board : allPassed (length w) (lowestPeriods w) zeros ≡ boardOf entry
-  unfolding allPassed
+  passed-board : othersPassed w zeros ≡ boardOf entry
+  unfolding othersPassed allPassed
   passed-board =
       ap (entries (entryPassed (length w) (lowestPeriods w)) (pairs longest)) zeros-board
       ∙ entries-boardOf (entryPassed (length w) (lowestPeriods w)) (λ (x : Pair). 0)
@@ -133,26 +132,29 @@ module _ (w : List ℕ) (t : T (ofLetters w)) (l : length w ≤ longest) where
         ∙ sym (is-false (isPeriod w x) (λ p. fails (isCandidate w x) c (period-candidate w x t p))))
         (decided (isCandidate w x))
 
-  passed-open : openPairs (length w) (boardOf entry) ≡ candidates w
+  -- its open pairs are the candidates
+  passed-open : openPairs (length w) (othersPassed w zeros) ≡ candidates w
   unfolding candidates
   passed-open =
-      open-of-entries (length w) entry l
+      ap (openPairs (length w)) passed-board
+      ∙ open-of-entries (length w) entry l
       ∙ keep-agree (λ (x : Pair). eqb (entry x) 0) (isCandidate w) (pairs (length w)) (λ x m. open-candidate x (pairs-in-range (length w) x m))
 
-  passed-periods : openPairs (length w) (allEnded w (boardOf entry)) ≡ periods w
+  -- and after these have been ended, the Abelian periods
+  pub tried-periods : openPairs (length w) (allEnded w (othersPassed w zeros)) ≡ periods w
   unfolding allEnded periods
-  passed-periods =
-      ap (openPairs (length w)) (entries-boardOf (entryAdded w) entry)
+  tried-periods =
+      ap (λ (b : List ℕ). openPairs (length w) (entries (entryAdded w) (pairs longest) b)) passed-board
+      ∙ ap (openPairs (length w)) (entries-boardOf (entryAdded w) entry)
       ∙ open-of-entries (length w) (λ (x : Pair). entryAdded w x (entry x)) l
       ∙ keep-agree (λ (x : Pair). eqb (entryAdded w x (entry x)) 0) (isPeriod w) (pairs (length w)) (λ x m. tried-period x (pairs-in-range (length w) x m))
 
-pub skipping-listed : (w out passed board : List ℕ) (trials : ℕ) → wordRefusal w false 0 0 ≡ none → passed ≡ allPassed (length w) (lowestPeriods w) zeros → board ≡ allEnded w passed
-    → trials ≡ length (openPairs (length w) passed) → openListing (length w) board trials out ≡ skippingListing w out
+pub skipping-listed : (w out board : List ℕ) (trials : ℕ) → wordRefusal w false 0 0 ≡ none → board ≡ allEnded w (othersPassed w zeros) → trials ≡ length (openPairs (length w) (othersPassed w zeros))
+    → openListing (length w) board trials out ≡ skippingListing w out
 unfolding openListing skippingListing periodWords skippingTrials
-skipping-listed w out passed board trials a p e f =
+skipping-listed w out board trials a e f =
     let l : length w ≤ longest = accepted-length w a in
     let t : T (ofLetters w) = accepted-letters w a in
-    let b : passed ≡ boardOf (entry w t l) = p ∙ passed-board w t l in
-    let n : trials ≡ length (candidates w) = f ∙ ap (λ (q : List ℕ). length (openPairs (length w) q)) b ∙ ap length (passed-open w t l) in
-    let xs : openPairs (length w) board ≡ periods w = ap (openPairs (length w)) (e ∙ ap (allEnded w) b) ∙ passed-periods w t l in
-    ap₂ (λ ys k. wordsListed (map periodWord ys) k out) xs n ∙ sym (accepted-listing w out (map periodWord (periods w)) (length (candidates w)) a)
+    ap₂ (λ b k. wordsListed (map periodWord (openPairs (length w) b)) k out) e f
+    ∙ ap₂ (λ xs ys. wordsListed (map periodWord xs) (length ys) out) (tried-periods w t l) (passed-open w t l)
+    ∙ sym (accepted-listing w out (map periodWord (periods w)) (length (candidates w)) a)

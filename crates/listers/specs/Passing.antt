@@ -1,14 +1,15 @@
 -- Pairs that the skipping lister passes over.
 use Prim.Native.Nat.{ℕ}
-use mathlib.Core.Bool.{Bool, _&&_}
+use mathlib.Core.Bool.{_&&_}
 use mathlib.Core.List.{List}
-use lib.ListN.{getD}
+use lib.ListN.{length, getD}
 use lib.Dec.{ltb}
 use Rattle.abelian.specs.Lists.{pick}
 use Rattle.abelian.specs.Words.{longest}
 use Rattle.abelian.specs.Periods.{Pair, inRange, pairs}
 use Rattle.abelian.specs.Trackers.{entries}
 use Rattle.board.specs.Ending.{entryInRow}
+use Rattle.listers.specs.Lowest.{lowestPeriods}
 
 -- the entry of a pair, after the pairs in range for n have been passed over whose period is below the lowest for their head: 1 for these
 unfoldable pub entryPassed : ℕ → List ℕ → Pair → ℕ → ℕ
@@ -20,3 +21,7 @@ rowPassed n lowest p board = entries (entryInRow (entryPassed n lowest) p) (pair
 
 unfoldable pub allPassed : ℕ → List ℕ → List ℕ → List ℕ
 allPassed n lowest board = entries (entryPassed n lowest) (pairs longest) board
+
+-- a board after the pairs in range for the word that are no candidates have been passed over
+unfoldable pub othersPassed : List ℕ → List ℕ → List ℕ
+othersPassed w board = allPassed (length w) (lowestPeriods w) board

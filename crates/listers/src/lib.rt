@@ -1,5 +1,6 @@
 // The two listers of Abelian periods. Both go through a board of the pairs in range and write those that are left open; they differ in
 // the pairs that they try.
+pub mod candidates;
 mod lowest;
 mod passing;
 
@@ -10,8 +11,7 @@ use abelian::Refusal;
 use board::count_open;
 use board::ending::end_pairs;
 use board::write_open;
-use lowest::lowest_periods;
-use passing::pass_over;
+use candidates::try_candidates;
 use words::check_word;
 use words::prefix_counts;
 ghost use mathlib.Core.Path.{_≡_};
@@ -49,18 +49,14 @@ pub fn list_plain(word: &[u8], out: &mut [u32]) -> Listed
     list_open(&board, word.len(), tried, out)
 }
 
-// Lists all Abelian periods of the word, and tries only the pairs that document 004's two bounds leave: those whose head is not ruled out
-// and whose period is not below the lowest one for the head. What is passed over is no Abelian period.
+// Lists all Abelian periods of the word, and tries only the pairs that document 004's two bounds leave.
 pub fn list_skipping(word: &[u8], out: &mut [u32]) -> Listed
     ensures { λ r. ⌜ answeredListed r (now (out .exit)) ≡ skippingListing (now (word .entry)) (now (out .entry)) ⌝ }
 {
     if let Outcome::Refused(refusal) = check_word(word) {
         return Listed::Refused(refusal);
     }
-    let counts = prefix_counts(word);
-    let lowest = lowest_periods(word, &counts);
     let mut board = [0u8; BOARD];
-    pass_over(word.len(), &lowest, &mut board);
-    let trials = end_pairs(word, &counts, &mut board);
+    let trials = try_candidates(word, &mut board);
     list_open(&board, word.len(), trials, out)
 }

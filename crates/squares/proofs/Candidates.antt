@@ -18,7 +18,8 @@ use Rattle.abelian.specs.Squares.{isSquare, squareStarts, squareWords}
 use Rattle.abelian.proofs.Lists.{length-upFrom, mem-upFrom, keep-agree}
 use Rattle.words.proofs.Vectors.{map-upFrom-at}
 use Rattle.squares.specs.Marks.{startMarks, squareMarks, markedStarts}
-use Rattle.squares.proofs.Lists.{map-more, keep-more, length-keep-more, keep-rises, keep-shorter, fill-more, each-split, each-more, each-fits, each-rest}
+use Rattle.words.proofs.Lists.{keep-rises, fill-more}
+use Rattle.squares.proofs.Lists.{map-more, keep-more, length-keep-more, keep-shorter, each-split, each-more, each-fits, each-rest}
 
 -- ---- what marks mark
 

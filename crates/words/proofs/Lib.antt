@@ -1,5 +1,6 @@
--- The laws of this crate's contracts, for its proofs and those of the crates above: of refusals, of vectors at a place, and of prefix counts.
+-- The laws of this crate's contracts, for its proofs and those of the crates above: of refusals, of lists that are written, of vectors at a place, and of prefix counts.
 pub mod Refusals
+pub mod Lists
 pub mod Listings
 pub mod Vectors
 pub mod Prefixes

@@ -17,7 +17,7 @@ use Rattle.abelian.specs.Calls.{squareListing}
 use Rattle.abelian.specs.declared.Refusal.the-variants.{SliceTooShort}
 use Rattle.words.proofs.Refusals.{accepted-none, refused-some, accepted-length, accepted-letters}
 use Rattle.squares.specs.Marks.{squareMarks}
-use Rattle.squares.proofs.Lists.{take-fill}
+use Rattle.words.proofs.Lists.{take-fill}
 use Rattle.words.proofs.Listings.{listing-refused, listing-short, listing-written}
 use Rattle.squares.proofs.Candidates.{candidates-bound}
 use Rattle.squares.proofs.list_squares.Statement.{statement}

@@ -11,7 +11,7 @@ use borrow.Author.Needs.{needs}
 use Rattle.abelian.specs.Words.{longest}
 use Rattle.abelian.specs.Output.{fullWord, fill}
 use Rattle.full_periods.specs.Marks.{isMarked, marked}
-use Rattle.full_periods.proofs.Lists.{fill-more}
+use Rattle.words.proofs.Lists.{fill-more}
 use Rattle.full_periods.proofs.Tables.{one-marked, other-not-marked, marked-more, marked-no-more, marked-rises}
 use Rattle.full_periods.proofs.marks.write_marked.Statement.{statement}
 use Rattle.full_periods.proofs.marks.write_marked.Tie as tie
@@ -44,7 +44,7 @@ module _ {marks : List ℕ} {n : ℕ} {out₀ out : List ℕ} {at p : ℕ} (h : 
         filled =
             ap (λ (l : List ℕ). set l at v) (h .filled)
             ∙ ap (λ (i : ℕ). set (fill (map (fullWord n) ms) out₀) i v) (sym k)
-            ∙ fill-more (map (fullWord n) ms) v out₀ (omega arith)
+            ∙ fill-more (map (fullWord n) ms) out₀ v (omega arith)
             ∙ ap (λ (x : ℕ). fill (map (fullWord n) ms ++ (x ∷ [])) out₀) q
             ∙ ap (λ (ws : List ℕ). fill ws out₀) (sym (map-append (fullWord n) ms (p ∷ [])) ∙ ap (map (fullWord n)) (sym m));
         fits = omega arith;

@@ -11,7 +11,7 @@ use Rattle.abelian.specs.Words.{longest}
 use Rattle.abelian.specs.Output.{squareWord, fill}
 use Rattle.abelian.specs.Squares.{squareStarts}
 use Rattle.squares.specs.Marks.{startMarks, squareMarks, markedStarts}
-use Rattle.squares.proofs.Lists.{length-fill, fill-lent}
+use Rattle.words.proofs.Lists.{length-fill, fill-lent}
 use Rattle.squares.proofs.Candidates.{length-startMarks, marked-squareStarts, fewer-words, marksBelow, halfWords, wordsBelow, all-words, marks-more, words-more, marks-fit, words-fit, marks-at, candidates-bound}
 use Rattle.squares.proofs.output.write_squares.Statement.{statement}
 use Rattle.squares.proofs.output.write_squares.Tie as tie

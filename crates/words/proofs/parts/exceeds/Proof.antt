@@ -50,10 +50,12 @@ loop-again c =
     let at-loop = c .before .before in
     let u = at-loop .before .args .t1 in
     let v = at-loop .before .args .t2 in
-    let j = at-loop .loop .j in
-    (omega arith, ⊎-elim (λ w. omega arith) (λ w. omega arith) (c .if1 .came),
-    fails-more leb noneAbove refl (λ a b u v. refl) u v (at-loop .loop .found) j (c .if1 .found) (omega arith) (omega arith) (at-loop .loop .inv .2)
-    (⊎-elim (λ w. inl (lt-leb (getD u j 0) (getD v j 0) (w .0 .taken), w .1)) (λ w. inr (le-leb (getD u j 0) (getD v j 0) (w .0 .left), w .1)) (c .if1 .came)))
+    let j = at-loop .loop .j in (
+      omega arith,
+      ⊎-elim (λ w. omega arith) (λ w. omega arith) (c .if1 .came),
+      fails-more leb noneAbove refl (λ a b u v. refl) u v (at-loop .loop .found) j (c .if1 .found) (omega arith) (omega arith) (at-loop .loop .inv .2)
+          (⊎-elim (λ w. inl (lt-leb (getD u j 0) (getD v j 0) (w .0 .taken), w .1)) (λ w. inr (le-leb (getD u j 0) (getD v j 0) (w .0 .left), w .1)) (c .if1 .came)),
+    )
 
 returns : tie.Need-returns Inv-loop μ-loop
 unfolding alphabetSize noneAbove

@@ -1,0 +1,5 @@
+pub mod TrackerHolding
+pub mod Steps
+pub mod FullPairs
+pub mod History
+pub mod Replays

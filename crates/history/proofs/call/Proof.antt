@@ -1,0 +1,27 @@
+-- `history::call` meets its contract: each byte's call is that of its three cases. Assumes nothing.
+use mathlib.Core.Path.{sym, _∙_}
+use borrow.Author.Needs.{needs}
+use Rattle.history.proofs.Replays.{takes-back, clears, adds}
+use Rattle.history.proofs.call.Statement.{statement}
+use Rattle.history.proofs.call.Tie as tie
+
+take-back-requires : tie.Need-take-back-requires
+take-back-requires c κs = search needs
+
+returns : tie.Need-returns
+returns c = c .take-back .ensures ∙ sym (takes-back _ _ (c .before .if1 .taken))
+
+clear-requires : tie.Need-clear-requires
+clear-requires c κs = search needs
+
+returns-2 : tie.Need-returns-2
+returns-2 c = c .clear .ensures ∙ sym (clears _ _ (c .before .before .if1 .left) (c .before .if2 .taken))
+
+add-requires : tie.Need-add-requires
+add-requires c κs = search needs
+
+returns-3 : tie.Need-returns-3
+returns-3 c = c .add .ensures ∙ sym (adds _ _ (c .before .before .if1 .left) (c .before .if2 .left))
+
+pub call-spec : {M : Type 1} → statement M
+call-spec = tie.close (tie.spec take-back-requires returns clear-requires returns-2 add-requires returns-3)

@@ -1,0 +1,6 @@
+pub mod Machine
+pub mod Calls
+pub mod History
+pub mod TrackerHolding
+pub mod Replay
+pub mod Replayed

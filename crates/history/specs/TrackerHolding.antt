@@ -1,0 +1,11 @@
+-- The one tracker that calls from a fresh one leave with a word.
+use Prim.Native.Nat.{ℕ, _-_}
+use mathlib.Core.List.{List, _++_}
+use lib.ListN.{length, replicate}
+use Rattle.abelian.specs.Words.{longest}
+use Rattle.abelian.specs.EndedLengths.{endedLength, boardOf}
+use Rattle.abelian.specs.declared.Tracker.{Tracker}
+
+-- it holds the word, and each board entry is its pair's ended length
+unfoldable pub trackerHolding : List ℕ → Tracker
+trackerHolding w = record { len = length w; bytes = w ++ replicate (longest - length w) 0; board = boardOf (endedLength w) }

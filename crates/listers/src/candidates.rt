@@ -1,0 +1,43 @@
+// The candidates of a word, tried on a board: what the skipping lister does before it lists, and how the Abelian periods are counted.
+use crate::lowest::lowest_periods;
+use crate::passing::pass_over;
+use abelian::BOARD;
+use board::count_open;
+use board::ending::end_pairs;
+use words::prefix_counts;
+ghost use mathlib.Core.Path.{_≡_};
+ghost use Prim.Native.Nat.{_≤_};
+ghost use lib.Dec.{T};
+ghost use lib.ListN.{length};
+ghost use Rattle.abelian.specs.Words.{longest, ofLetters};
+ghost use Rattle.abelian.specs.Periods.{periods};
+ghost use Rattle.abelian.specs.Trackers.{boardSize, openPairs};
+ghost use Rattle.board.specs.Ending.{allEnded};
+ghost use Rattle.listers.specs.Passing.{othersPassed};
+
+// Ends the pairs in range that are no Abelian period, and returns how many were tried: only those open pairs that document 004's two
+// bounds leave, whose head is not ruled out and whose period is not below the lowest one for the head. What is passed over is no
+// Abelian period.
+pub(crate) fn try_candidates(word: &[u8], board: &mut [u8; BOARD]) -> usize
+    requires { ⌜ T (ofLetters (now word)) ⌝ }
+    requires { ⌜ length (now word) ≤ longest ⌝ }
+    requires { ⌜ length (now board) ≡ boardSize ⌝ }
+    ensures { λ r. ⌜ r ≡ length (openPairs (length (now (word .entry))) (othersPassed (now (word .entry)) (now (board .entry)))) ⌝ }
+    ensures { λ _. ⌜ now (board .exit) ≡ allEnded (now (word .entry)) (othersPassed (now (word .entry)) (now (board .entry))) ⌝ }
+{
+    let counts = prefix_counts(word);
+    let lowest = lowest_periods(word, &counts);
+    pass_over(word.len(), &lowest, board);
+    end_pairs(word, &counts, board)
+}
+
+// The number of Abelian periods of a word that may be taken. For the crates above.
+pub fn count_periods(word: &[u8]) -> usize
+    requires { ⌜ T (ofLetters (now word)) ⌝ }
+    requires { ⌜ length (now word) ≤ longest ⌝ }
+    ensures { λ r. ⌜ r ≡ length (periods (now (word .entry))) ⌝ }
+{
+    let mut board = [0u8; BOARD];
+    try_candidates(word, &mut board);
+    count_open(&board, word.len())
+}

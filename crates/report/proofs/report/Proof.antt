@@ -1,0 +1,105 @@
+-- `report::report` meets its contract: each of its three answers is the definition's, since the count is that of the report's words, and a slice for
+-- which it is not counted has places enough. Assumes nothing.
+use mathlib.Core.Path.{_≡_, sym, ap, ap₂, _∙_}
+use mathlib.Core.Logic.{⊎-elim}
+use mathlib.Core.Bool.{false}
+use mathlib.Core.Option.{none}
+use mathlib.Core.List.{List}
+use Prim.Native.Nat.{ℕ, _≤_}
+use native.Mathlib.Omega.{arith}
+use lib.ListN.{length}
+use borrow.Author.Needs.{needs}
+use Rattle.abelian.specs.Words.{longest}
+use Rattle.abelian.specs.Refusals.{wordRefusal}
+use Rattle.abelian.specs.Trackers.{boardSize}
+use Rattle.abelian.specs.Answers.{refusing, writing}
+use Rattle.abelian.specs.Calls.{reportWords, reporting}
+use Rattle.abelian.specs.declared.Refusal.the-variants.{SliceTooShort}
+use Rattle.words.proofs.Refusals.{accepted-none, refused-some, accepted-length, accepted-letters}
+use Rattle.words.proofs.Listings.{listing-refused, listing-short, listing-written}
+use Rattle.report.proofs.Lengths.{report-places}
+use Rattle.report.proofs.report.Statement.{statement}
+use Rattle.report.proofs.report.Tie as tie
+
+-- what is known once the word is accepted
+module _ (c : tie.After-enum-told) where
+  abbrev start : tie.Start
+  start = c .before .before .before .before .before
+
+  abbrev w : List ℕ
+  w = start .args .word .now
+
+  abbrev out : List ℕ
+  out = start .args .out .now
+
+  accepted : wordRefusal w false 0 0 ≡ none
+  accepted = accepted-none (wordRefusal w false 0 0) (sym (c .before .before .check-word .ensures) ∙ c .enum-told .given .1)
+
+-- past both tests the slice has places enough
+fits : (c : tie.Joined1) → length (reportWords (w (c .before))) ≤ length (out (c .before))
+unfolding longest boardSize
+fits c =
+    let told = c .before in
+    ⊎-elim (λ counted. omega (arith, counted .1 .ensures, counted .2 .left))
+    (λ long. omega (arith, long .left, report-places (w told) (accepted-length (w told) (accepted told)))) (c .if1 .came)
+
+check-word-requires : tie.Need-check-word-requires
+check-word-requires c κs = search needs
+
+enum-known-refusal : tie.Need-enum-known-refusal
+enum-known-refusal c = search needs
+
+returns : tie.Need-returns
+unfolding reporting
+returns c =
+    let at-start = c .before .before .before .before .before .before in
+    let word = at-start .args .word .now in
+    let r = c .before .refusal .given .0 .0 in
+    sym
+    (listing-refused word (at-start .args .out .now) (reportWords word) 0 0 0
+    (refused-some (wordRefusal word false 0 0) r (sym (c .before .before .before .check-word .ensures) ∙ c .before .refusal .given .1)))
+
+enum-told : tie.Need-enum-told
+enum-told c = search needs
+
+words-needed-requires : tie.Need-words-needed-requires
+words-needed-requires c κs = let told = c .before in (accepted-letters (w told) (accepted told), accepted-length (w told) (accepted told))
+
+returns-2 : tie.Need-returns-2
+unfolding reporting
+returns-2 c =
+    let told = c .before .before .before in
+    let needed = c .before .words-needed .ensures in
+    ap (λ (k : ℕ). refusing (SliceTooShort k) (out told)) needed
+    ∙ sym (listing-short (w told) (out told) (reportWords (w told)) 0 0 0 (accepted told) (omega (arith, needed, c .if2 .taken)))
+
+write-parts-requires : tie.Need-write-parts-requires
+write-parts-requires c κs =
+    let told = c .before .before in
+    (accepted-letters (w told) (accepted told), (accepted-length (w told) (accepted told), fits (c .before)))
+
+same-length : tie.Need-same-length
+same-length c = search needs
+
+returns-3 : tie.Need-returns-3
+unfolding reporting
+returns-3 c =
+    let call = c .before .before .write-parts in
+    let joined = c .before .before .before .before in
+    let told = joined .before in
+    ap₂ (λ (k : ℕ) (l : List ℕ). writing k 0 0 0 l) (call .ensures .0) (call .ensures .1)
+    ∙ sym (listing-written (w told) (out told) (reportWords (w told)) 0 0 0 (accepted told) (fits joined))
+
+pub report-spec : {M : Type 1} → statement M
+report-spec =
+    tie.close
+    (tie.spec
+    check-word-requires
+    enum-known-refusal
+    returns
+    enum-told
+    words-needed-requires
+    returns-2
+    write-parts-requires
+    same-length
+    returns-3)

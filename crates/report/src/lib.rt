@@ -1,0 +1,37 @@
+// The report of a word: one word of kind 8, then its full periods, its Abelian periods and its squares. Where the slice may be too short,
+// the whole is counted before the first place is written, so that a refusal leaves the slice as it came.
+mod answers;
+mod parts;
+
+use abelian::BOARD;
+use abelian::LONGEST;
+use abelian::Outcome;
+use abelian::Refusal;
+use abelian::Wrote;
+use parts::words_needed;
+use parts::write_parts;
+use squares::CANDIDATES;
+use words::check_word;
+ghost use mathlib.Core.Path.{_≡_};
+ghost use Rattle.abelian.specs.Answers.{answeredWrote};
+ghost use Rattle.abelian.specs.Calls.{reporting};
+
+// Places enough for the report of every word: one for the head, and as many as there can be full periods, Abelian periods and squares.
+pub const PLACES: usize = 1 + LONGEST + BOARD + CANDIDATES;
+
+// Writes the report of the word. A slice of `PLACES` places is never too short, so that the report is counted only for a shorter one.
+pub fn report(word: &[u8], out: &mut [u32]) -> Wrote
+    ensures { λ r. ⌜ answeredWrote r (now (out .exit)) ≡ reporting (now (word .entry)) (now (out .entry)) ⌝ }
+{
+    if let Outcome::Refused(refusal) = check_word(word) {
+        return Wrote::Refused(refusal);
+    }
+    if out.len() < PLACES {
+        let needed = words_needed(word);
+        if out.len() < needed {
+            return Wrote::Refused(Refusal::SliceTooShort(needed));
+        }
+    }
+    let written = write_parts(word, out);
+    Wrote::Words(written)
+}

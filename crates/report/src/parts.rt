@@ -1,0 +1,82 @@
+// The parts of a report, counted and written.
+use crate::answers::listed_words;
+use crate::answers::scaled_words;
+use crate::answers::wrote_words;
+use covers::cover_length;
+use full_periods::count_full;
+use full_periods::list_full_scaled;
+use listers::candidates::count_periods;
+use listers::list_skipping;
+use squares::CANDIDATES;
+use squares::list_squares;
+use squares::marks::mark_squares;
+use words::prefix_counts;
+ghost use mathlib.Core.Path.{_≡_};
+ghost use Prim.Native.Nat.{_≤_};
+ghost use lib.Dec.{T, ltb};
+ghost use lib.ListN.{length};
+ghost use Rattle.abelian.specs.Lists.{one};
+ghost use Rattle.abelian.specs.Words.{longest, ofLetters};
+ghost use Rattle.abelian.specs.Covers.{coverLength};
+ghost use Rattle.abelian.specs.Squares.{squareWords};
+ghost use Rattle.abelian.specs.Output.{reportHead, fill};
+ghost use Rattle.abelian.specs.Calls.{reportWords};
+
+// The kind of a report's head, above the other parts of its output word.
+const HEAD: u32 = 8 * 268435456;
+
+// What one of the upper part counts.
+const UPPER: u32 = 16384;
+
+// The report's head: n above, and below 1 if a cover exists, else 0.
+fn head_word(word: &[u8]) -> u32
+    requires { ⌜ T (ofLetters (now word)) ⌝ }
+    requires { ⌜ length (now word) ≤ longest ⌝ }
+    ensures { λ r. ⌜ r ≡ reportHead (length (now (word .entry))) (one (ltb 0 (coverLength (now (word .entry))))) ⌝ }
+{
+    let head = HEAD + (word.len() as u32) * UPPER;
+    if cover_length(word) == 0 {
+        head
+    } else {
+        head + 1
+    }
+}
+
+// The number of squares of the word.
+fn count_squares(word: &[u8]) -> usize
+    requires { ⌜ T (ofLetters (now word)) ⌝ }
+    requires { ⌜ length (now word) ≤ longest ⌝ }
+    ensures { λ r. ⌜ r ≡ length (squareWords (now (word .entry))) ⌝ }
+{
+    let counts = prefix_counts(word);
+    let mut marks = [0u8; CANDIDATES];
+    mark_squares(word, &counts, &mut marks)
+}
+
+// The number of words of the report.
+pub(crate) fn words_needed(word: &[u8]) -> usize
+    requires { ⌜ T (ofLetters (now word)) ⌝ }
+    requires { ⌜ length (now word) ≤ longest ⌝ }
+    ensures { λ r. ⌜ r ≡ length (reportWords (now (word .entry))) ⌝ }
+{
+    let full = count_full(word);
+    let periods = count_periods(word);
+    let squares = count_squares(word);
+    1 + full + periods + squares
+}
+
+// Writes the report into a slice with places enough, and returns the number of its words: the head stands in the first place, and the
+// remaining part is lent to each lister in turn.
+pub(crate) fn write_parts(word: &[u8], out: &mut [u32]) -> usize
+    requires { ⌜ T (ofLetters (now word)) ⌝ }
+    requires { ⌜ length (now word) ≤ longest ⌝ }
+    requires { ⌜ length (reportWords (now word)) ≤ length (now out) ⌝ }
+    ensures { λ r. ⌜ r ≡ length (reportWords (now (word .entry))) ⌝ }
+    ensures { λ _. ⌜ now (out .exit) ≡ fill (reportWords (now (word .entry))) (now (out .entry)) ⌝ }
+{
+    out[0] = head_word(word);
+    let full_at = 1;
+    let periods_at = full_at + scaled_words(list_full_scaled(word, &mut out[full_at..]));
+    let squares_at = periods_at + listed_words(list_skipping(word, &mut out[periods_at..]));
+    squares_at + wrote_words(list_squares(word, &mut out[squares_at..]))
+}
