@@ -1,17 +1,17 @@
 -- Laws of counts and count vectors.
 use mathlib.Core.Path.{_≡_, refl, sym, ap, subst, _∙_}
 use mathlib.Core.Logic.{_⊎_, inl, inr, ⊎-elim, _≢_}
-use mathlib.Core.Bool.{Bool, true, false, _&&_}
-use mathlib.Core.List.{List, [], _∷_, _++_, map, List·Memᴰ, List·Memᴰ·head, List·Memᴰ·tail, List·Memᴰ·cases-cons, List·Memᴰ·not-nil, Memᴰ·append-left, Memᴰ·append-right}
+use mathlib.Core.Bool.{Bool, true, false}
+use mathlib.Core.List.{List, [], _∷_, _++_, map, List·Memᴰ, List·Memᴰ·head, List·Memᴰ·tail, List·Memᴰ·cases-cons, List·Memᴰ·not-nil, Memᴰ·append-left, Memᴰ·append-right, List·Memᴰ·append-cases, List·Memᴰ·eq-of-singleton}
 use Prim.Native.Nat.{ℕ, zero, suc, _+_, _-_, _≤_, _<_}
 use native.Mathlib.Omega.{arith}
-use lib.ListN.{length, take, drop, getD, length-append, take-append-drop}
-use lib.Seq.{take-add, drop-drop, take-suc}
-use lib.Dec.{T, eqb, leb, ltb, leb→le, le→leb, ltb→lt, lt→ltb, eqb→eq, eqb-refl}
-use borrow.Author.Tests.{eqb-true, eqb-false, eq-eqb, ne-eqb, leb-true, leb-false, ltb-true, ltb-false}
-use Rattle.abelian.specs.Lists.{pick, one, upFrom, sum, same, all}
+use lib.ListN.{length, take, drop, getD, take-append-drop}
+use lib.Seq.{take-add, take-suc}
+use lib.Dec.{T, eqb, leb, ltb, leb→le, le→leb, ltb→lt, lt→ltb, eqb→eq}
+use borrow.Author.Tests.{eqb-true, eqb-false, ne-eqb}
+use Rattle.abelian.specs.Lists.{pick, one, upFrom, sum}
 use Rattle.abelian.specs.Words.{alphabetSize, firstLetter, letters, isLetter, outsideFrom, firstOutside, ofLetters, count, vector, noneAbove, contained, part}
-use Rattle.abelian.proofs.Tests.{is-true, is-false, both, left, right, decided, passes, fails}
+use Rattle.abelian.proofs.Tests.{is-true, both, left, right, decided}
 
 -- ---- counts of parts
 
@@ -217,6 +217,12 @@ letters-left u v t = inside-letters u (λ x m. letters-inside (u ++ v) t x (Mem�
 
 pub letters-right : (u v : List ℕ) → T (ofLetters (u ++ v)) → T (ofLetters v)
 letters-right u v t = inside-letters v (λ x m. letters-inside (u ++ v) t x (Memᴰ·append-right u m))
+
+-- a letter behind a word of letters makes a word of letters
+pub letters-last : (w : List ℕ) (b : ℕ) → T (ofLetters w) → T (isLetter alphabetSize b) → T (ofLetters (w ++ (b ∷ [])))
+letters-last w b t l =
+    inside-letters (w ++ (b ∷ []))
+    (λ x m. ⊎-elim (letters-inside w t x) (λ n. subst (λ (c : ℕ). T (isLetter alphabetSize c)) (sym (List·Memᴰ·eq-of-singleton n)) l) (List·Memᴰ·append-cases w m))
 
 pub letters-take : (k : ℕ) (w : List ℕ) → T (ofLetters w) → T (ofLetters (take k w))
 letters-take k w t = letters-left (take k w) (drop k w) (subst (λ (l : List ℕ). T (ofLetters l)) (sym (take-append-drop k w)) t)

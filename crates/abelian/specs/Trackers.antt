@@ -28,13 +28,12 @@ boardSize = 14520
 unfoldable pub freshTracker : Tracker
 freshTracker = record { len = 0; bytes = replicate longest 0; board = replicate boardSize 0 }
 
--- the letters held: the bytes within the length
-unfoldable pub held : Tracker → List ℕ
-held t = take (t .len) (t .bytes)
-
 -- "6": the length is above 240, or a byte within the length is no letter
+unfoldable pub damagedBytes : ℕ → List ℕ → Bool
+damagedBytes n bytes = ltb longest n || not (ofLetters (take n bytes))
+
 unfoldable pub damaged : Tracker → Bool
-damaged t = ltb longest (t .len) || not (ofLetters (held t))
+damaged t = damagedBytes (t .len) (t .bytes)
 
 -- the entries of a board, each made anew from its pair and its old value
 unfoldable pub entries : (Pair → ℕ → ℕ) → List Pair → List ℕ → List ℕ

@@ -19,8 +19,7 @@ use Rattle.abelian.specs.Trackers.{Step, damaged, stepUnless, shortened, adding
 use Rattle.abelian.specs.declared.Refusal.{Refusal}
 use Rattle.abelian.specs.declared.Refusal.the-variants.{NotALetter, TrackerFull, TrackerEmpty}
 use Rattle.abelian.specs.declared.Tracker.{Tracker}
-use Rattle.abelian.proofs.Counts.{inside-letters, letters-take}
-use Rattle.tracker.proofs.Damage.{letters-more}
+use Rattle.abelian.proofs.Counts.{inside-letters, letters-last, letters-take}
 use Rattle.history.specs.Machine.{Call, Letters, lettersUnless, machine}
 use Rattle.history.specs.Calls.{step}
 use Rattle.history.specs.History.{IsWord}
@@ -68,7 +67,7 @@ accepted-take-back false e = refl
 
 -- a word with one letter more, or its last one gone, is a word
 longer-word : (w : List ℕ) (b : ℕ) → IsWord w → T (isLetter alphabetSize b) → length w < longest → IsWord (w ++ (b ∷ []))
-longer-word w b i t l = record { letters = letters-more w b (i .letters) t; fits = omega (arith, length-append w (b ∷ [])) }
+longer-word w b i t l = record { letters = letters-last w b (i .letters) t; fits = omega (arith, length-append w (b ∷ [])) }
 
 shorter-word : (w : List ℕ) → IsWord w → IsWord (take (length w - 1) w)
 shorter-word w i = record { letters = letters-take (length w - 1) w (i .letters); fits = omega (arith, i .fits, length-take-le (length w - 1) w (omega arith)) }

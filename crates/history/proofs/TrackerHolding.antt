@@ -13,7 +13,7 @@ use Rattle.abelian.specs.Lists.{pick}
 use Rattle.abelian.specs.Words.{longest, ofLetters}
 use Rattle.abelian.specs.Periods.{Pair, pairs, isPeriod, periods}
 use Rattle.abelian.specs.EndedLengths.{endedLength, boardOf}
-use Rattle.abelian.specs.Trackers.{boardSize, freshTracker, held, damaged, entries, entryAdded, added, shortened, openPairs}
+use Rattle.abelian.specs.Trackers.{boardSize, freshTracker, damagedBytes, damaged, entries, entryAdded, added, shortened, openPairs}
 use Rattle.abelian.specs.declared.Tracker.{Tracker}
 use Rattle.abelian.proofs.Tests.{is-true}
 use Rattle.abelian.proofs.Lists.{keep-agree}
@@ -36,15 +36,10 @@ fresh-empty =
     (zeros-board ∙ boardOf-agree (λ (x : Pair). 0) (endedLength [])
     (λ x t. let r : InRange longest x = in-range longest x t in sym (out-of-range-open [] x (omega (arith, r .positive)))))
 
--- it holds the word's letters
-pub held-word : (w : List ℕ) → held (trackerHolding w) ≡ w
-unfolding held trackerHolding
-held-word w = take-append-seam w (replicate (longest - length w) 0)
-
--- and is not damaged
+-- the tracker of a word is not damaged
 pub undamaged : (w : List ℕ) → T (ofLetters w) → length w ≤ longest → damaged (trackerHolding w) ≡ false
-unfolding damaged trackerHolding
-undamaged w t l = rw (held-word w, is-true (ofLetters w) t, le-ltb longest (length w) l)
+unfolding damaged damagedBytes trackerHolding
+undamaged w t l = rw (take-append-seam w (replicate (longest - length w) 0), is-true (ofLetters w) t, le-ltb longest (length w) l)
 
 -- ---- one letter more, and one letter less
 

@@ -1,9 +1,8 @@
 -- Laws of damage: what `is_damaged` finds is what document 01 says of a tracker, and a tracker that is not damaged holds a word of letters.
-use mathlib.Core.Path.{_≡_, refl, sym, subst, _∙_}
-use mathlib.Core.Logic.{⊎-elim}
+use mathlib.Core.Path.{_≡_, refl, sym, _∙_}
 use mathlib.Core.Bool.{Bool, true, false, not, _||_}
 use mathlib.Core.Option.{none, some}
-use mathlib.Core.List.{List, [], _∷_, _++_, List·Memᴰ·append-cases, List·Memᴰ·eq-of-singleton}
+use mathlib.Core.List.{List}
 use Prim.Native.Nat.{ℕ, _+_, _≤_, _<_}
 use native.Mathlib.Omega.{arith}
 use native.Mathlib.Numerals.{add-one}
@@ -13,13 +12,12 @@ use lib.Dec.{T, ltb}
 use borrow.Author.Tests.{lt-ltb, le-ltb, ltb-false}
 use Rattle.abelian.specs.Words.{alphabetSize, longest, isLetter, ofLetters}
 use Rattle.abelian.specs.Refusals.{wordRefusal}
-use Rattle.abelian.specs.Trackers.{held, damaged}
+use Rattle.abelian.specs.Trackers.{damagedBytes, damaged}
 use Rattle.abelian.specs.declared.Refusal.{Refusal}
 use Rattle.abelian.specs.declared.Tracker.{Tracker}
 use Rattle.abelian.proofs.Tests.{is-true, is-false, passes}
-use Rattle.abelian.proofs.Counts.{letters-inside, inside-letters}
+use Rattle.abelian.proofs.Counts.{letters-last}
 use Rattle.words.proofs.Refusals.{accepted-letters, letters-none}
-use Rattle.tracker.specs.Steps.{damagedBytes}
 
 module _ (len : ℕ) (bytes : List ℕ) where
   -- a length above the longest
@@ -47,26 +45,20 @@ module _ (len : ℕ) (bytes : List ℕ) where
 module _ (t : Tracker) where
   -- what `is_damaged` finds of the tracker's length and bytes
   pub damage-found : {found is : Bool} → found ≡ damagedBytes (t .len) (t .bytes) → found ≡ is → damaged t ≡ is
-  unfolding damagedBytes damaged held
+  unfolding damaged
   damage-found e f = sym e ∙ f
 
   -- the length of a tracker that is not damaged, and its letters
-  pub undamaged : damaged t ≡ false → (t .len ≤ longest) × T (ofLetters (held t))
-  unfolding damaged
-  undamaged e = go (ltb longest (t .len)) (ofLetters (held t)) refl refl e
+  pub undamaged : damaged t ≡ false → (t .len ≤ longest) × T (ofLetters (take (t .len) (t .bytes)))
+  unfolding damaged damagedBytes
+  undamaged e = go (ltb longest (t .len)) (ofLetters (take (t .len) (t .bytes))) refl refl e
     where
-      go : (long letters : Bool) → ltb longest (t .len) ≡ long → ofLetters (held t) ≡ letters → (long || not letters) ≡ false → (t .len ≤ longest) × T (ofLetters (held t))
-      go false true l o f = (ltb-false longest (t .len) l, passes (ofLetters (held t)) o)
+      go : (long letters : Bool) → ltb longest (t .len) ≡ long → ofLetters (take (t .len) (t .bytes)) ≡ letters → (long || not letters) ≡ false → (t .len ≤ longest) × T (ofLetters (take (t .len) (t .bytes)))
+      go false true l o f = (ltb-false longest (t .len) l, passes (ofLetters (take (t .len) (t .bytes))) o)
       go false false l o f = let z : _≡_ {A = ℕ} 0 1 = cc in absurd (omega arith)
       go true letters l o f = let z : _≡_ {A = ℕ} 0 1 = cc in absurd (omega arith)
 
--- a letter behind a word of letters makes a word of letters
-pub letters-more : (w : List ℕ) (b : ℕ) → T (ofLetters w) → T (isLetter alphabetSize b) → T (ofLetters (w ++ (b ∷ [])))
-letters-more w b t l =
-    inside-letters (w ++ (b ∷ []))
-    (λ x m. ⊎-elim (letters-inside w t x) (λ n. subst (λ (c : ℕ). T (isLetter alphabetSize c)) (sym (List·Memᴰ·eq-of-singleton n)) l) (List·Memᴰ·append-cases w m))
-
--- so are the bytes within the length after a letter has been stored behind them
+-- the bytes within the length are letters after one has been stored behind them
 pub letters-stored : (len : ℕ) (bytes : List ℕ) (b : ℕ) → len < length bytes → T (ofLetters (take len bytes)) → T (isLetter alphabetSize b)
     → T (ofLetters (take (len + 1) (set bytes len b)))
-letters-stored len bytes b h t l = rw (add-one, take-suc-set bytes len b h) (letters-more (take len bytes) b t l)
+letters-stored len bytes b h t l = rw (add-one, take-suc-set bytes len b h) (letters-last (take len bytes) b t l)

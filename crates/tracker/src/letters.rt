@@ -13,8 +13,8 @@ ghost use Prim.Native.Nat.{_≤_, _<_};
 ghost use lib.Dec.{T};
 ghost use lib.ListN.{length};
 ghost use Rattle.abelian.specs.Words.{alphabetSize, longest, isLetter};
-ghost use Rattle.abelian.specs.Trackers.{boardSize, damaged, added, shortened};
-ghost use Rattle.tracker.specs.Steps.{damagedBytes, entryReopened};
+ghost use Rattle.abelian.specs.Trackers.{boardSize, damagedBytes, damaged, added, shortened};
+ghost use Rattle.tracker.specs.Steps.{entryReopened};
 
 // Whether a tracker of this length and these bytes is damaged: the length is above the longest, or a byte within it is no letter. The bytes
 // beyond the length are not looked at.

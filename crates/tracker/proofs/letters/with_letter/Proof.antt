@@ -7,7 +7,7 @@ use native.Mathlib.Omega.{arith}
 use lib.ListN.{length, take, set, length-take, length-set}
 use lib.Dec.{T}
 use Rattle.abelian.specs.Words.{longest, ofLetters}
-use Rattle.abelian.specs.Trackers.{boardSize, held}
+use Rattle.abelian.specs.Trackers.{boardSize}
 use Rattle.abelian.specs.declared.Tracker.{Tracker}
 use Rattle.tracker.proofs.Damage.{undamaged, letters-stored}
 use Rattle.tracker.proofs.Steps.{letter-added}
@@ -40,7 +40,6 @@ module _ (s : tie.Start) where
   short = omega (arith, size, s .pre .1 .0)
 
   letters : T (ofLetters word)
-  unfolding held
   letters = letters-stored (old .len) (old .bytes) (s .args .letter) (omega (arith, places, s .pre .1 .0)) (undamaged old (s .pre .0) .1) (s .pre .1 .1)
 
 add-longer : tie.Need-add-longer
