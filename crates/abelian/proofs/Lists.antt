@@ -1,15 +1,14 @@
 -- Laws of the functions on lists that the definitions are made of.
 use mathlib.Core.Path.{_≡_, refl, sym, ap, subst, _∙_}
 use mathlib.Core.Logic.{_⊎_, inl, inr, ⊎-elim, _≢_}
-use mathlib.Core.Bool.{Bool, true, false, _&&_}
-use mathlib.Core.List.{List, [], _∷_, _++_, map, append-assoc, append-nil, List·Memᴰ, List·Memᴰ·head, List·Memᴰ·tail, List·Memᴰ·cases-cons, List·Memᴰ·append-cases, Memᴰ·append-left, Memᴰ·append-right, List·Memᴰ·not-nil, Memᴰ·cast}
-use Prim.Native.Nat.{ℕ, zero, suc, _+_, _*_, _≤_, _<_}
-use native.Mathlib.Nat.{not-suc-le-zero}
+use mathlib.Core.Bool.{Bool, true, false}
+use mathlib.Core.List.{List, [], _∷_, _++_, append-assoc, append-nil, List·Memᴰ, List·Memᴰ·head, List·Memᴰ·tail, List·Memᴰ·cases-cons, List·Memᴰ·append-cases, Memᴰ·append-left, Memᴰ·append-right, List·Memᴰ·not-nil}
+use Prim.Native.Nat.{ℕ, zero, suc, _+_, _≤_, _<_}
 use native.Mathlib.Omega.{arith}
-use lib.ListN.{length, getD, length-append}
+use lib.ListN.{length}
 use lib.Dec.{T, eqb, eqb→eq, eqb-refl}
 use borrow.Author.Tests.{eqb-true, eqb-false, ne-eqb}
-use Rattle.abelian.specs.Lists.{pick, upFrom, sum, same, put, keep, all, join, each, firstOf}
+use Rattle.abelian.specs.Lists.{pick, upFrom, same, put, keep, all, each, firstOf}
 use Rattle.abelian.proofs.Tests.{is-false, both, left, right, decided, passes, fails}
 
 -- ---- equal lists of numbers

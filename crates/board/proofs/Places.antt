@@ -1,10 +1,10 @@
 -- Laws of places: the pairs in range for 240, in pair order, stand at the places 0, 1, 2 and so on; so a board is known by its entries
 -- at the pairs.
-use mathlib.Core.Path.{_≡_, refl, sym, ap, ap₂, subst, _∙_}
-use mathlib.Core.Logic.{_⊎_, inl, inr, ⊎-elim}
+use mathlib.Core.Path.{_≡_, refl, sym, ap, _∙_}
+use mathlib.Core.Logic.{_⊎_, ⊎-elim}
 use mathlib.Core.Bool.{Bool, true, false, _&&_}
 use mathlib.Core.List.{List, [], _∷_, _++_, map, map-append, List·Memᴰ, List·Memᴰ·head, List·Memᴰ·tail, List·Memᴰ·cases-cons, List·Memᴰ·not-nil}
-use Prim.Native.Nat.{ℕ, zero, suc, _+_, _-_, _*_, _/_, _≤_, _<_}
+use Prim.Native.Nat.{ℕ, zero, suc, _+_, _-_, _≤_, _<_}
 use native.Mathlib.Omega.{arith}
 use lib.ListN.{length, getD, set, length-append, length-map, length-set, List·getD-map}
 use lib.Seq.{ext-getD, getD-set-same, getD-set-other}
@@ -12,11 +12,11 @@ use lib.Dec.{T, eqb}
 use borrow.Author.Tests.{eqb-true, eqb-false}
 use Rattle.abelian.specs.Lists.{pick, upFrom, all, each, put, keep}
 use Rattle.abelian.specs.Words.{longest}
-use Rattle.abelian.specs.Periods.{Pair, pair, inRange, heads, row, pairs, Rising}
+use Rattle.abelian.specs.Periods.{Pair, pair, inRange, heads, row, pairs}
 use Rattle.abelian.specs.EndedLengths.{boardOf}
 use Rattle.abelian.specs.Trackers.{boardSize, entries, pairsWhere}
 use Rattle.abelian.proofs.Tests.{is-true, both, left, right, decided}
-use Rattle.abelian.proofs.Lists.{all-mem, upFrom-mem, mem-keep, keep-mem, length-upFrom, upFrom-append}
+use Rattle.abelian.proofs.Lists.{all-mem, upFrom-mem, mem-keep, keep-mem, upFrom-append}
 use Rattle.abelian.proofs.Pairs.{InRange, in-range, range-in, pairs-in-range, in-range-pairs, pairs-rising, rising-keep, rising-equal}
 use Rattle.periods.proofs.PairCount.{length-row, pair-count}
 use Rattle.board.specs.Places.{rowStart, placeOf, entryAt}

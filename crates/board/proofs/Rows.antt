@@ -1,14 +1,14 @@
 -- Laws of rows: the open pairs of a board, row by row, and their output words.
-use mathlib.Core.Path.{_≡_, refl, sym, ap, ap₂, subst, _∙_}
+use mathlib.Core.Path.{_≡_, refl, sym, ap, _∙_}
 use mathlib.Core.Bool.{Bool, true, false, _&&_}
-use mathlib.Core.List.{List, [], _∷_, _++_, map, map-append, append-assoc, append-nil}
-use Prim.Native.Nat.{ℕ, zero, suc, _+_, _-_, _*_, _≤_, _<_, min}
+use mathlib.Core.List.{List, [], _∷_, _++_, map, map-append}
+use Prim.Native.Nat.{ℕ, zero, suc, _+_, _-_, _≤_, _<_}
 use native.Mathlib.Omega.{arith}
-use lib.ListN.{length, take, drop, getD, set, length-append, length-map}
-use lib.Seq.{sets, take-suc, drop-cons}
+use lib.ListN.{length, take, getD, set, length-append, length-map}
+use lib.Seq.{sets, drop-cons}
 use lib.Dec.{T, eqb, leb}
 use borrow.Author.Tests.{leb-true}
-use Rattle.abelian.specs.Lists.{pick, one, upFrom, all, each, put, keep}
+use Rattle.abelian.specs.Lists.{one, upFrom, all, each, put, keep}
 use Rattle.abelian.specs.Words.{longest, count, part}
 use Rattle.abelian.specs.Periods.{Pair, pair, inRange, heads, row, pairs}
 use Rattle.abelian.specs.Output.{periodWord}

@@ -1,6 +1,5 @@
 -- The pairs of some rows ended by a word, for the functions that go row by row.
 use Prim.Native.Nat.{ℕ}
-use mathlib.Core.Bool.{Bool}
 use mathlib.Core.List.{List}
 use lib.Dec.{eqb}
 use Rattle.abelian.specs.Lists.{pick, keep}

@@ -1,13 +1,13 @@
 -- Laws of ended lengths: an entry is 0 exactly where the pair is still an Abelian period, and the entries after one letter more and
 -- after one letter less are known from those before.
-use mathlib.Core.Path.{_≡_, refl, sym, ap, subst, _∙_}
-use mathlib.Core.Logic.{_⊎_, inl, inr, ⊎-elim, _≢_}
+use mathlib.Core.Path.{_≡_, refl, ap, _∙_}
+use mathlib.Core.Logic.{_⊎_, ⊎-elim}
 use mathlib.Core.Bool.{Bool, true, false, not, _&&_}
 use mathlib.Core.List.{List, [], _∷_, _++_, List·Memᴰ}
-use Prim.Native.Nat.{ℕ, zero, suc, _+_, _-_, _*_, _≤_, _<_}
+use Prim.Native.Nat.{ℕ, suc, _+_, _-_, _≤_, _<_}
 use native.Mathlib.Decide.{decLt}
 use native.Mathlib.Omega.{arith}
-use lib.ListN.{length, take, drop, length-append}
+use lib.ListN.{length, take, length-append}
 use lib.Seq.{take-length, take-append-le}
 use lib.Dec.{T, eqb, T-not}
 use borrow.Author.Tests.{eq-eqb, ne-eqb, eqb-true, eqb-false}
@@ -16,7 +16,7 @@ use Rattle.abelian.specs.Words.{ofLetters}
 use Rattle.abelian.specs.Periods.{Pair, inRange, isPeriod}
 use Rattle.abelian.specs.EndedLengths.{endedLength}
 use Rattle.abelian.specs.Trackers.{entryAdded}
-use Rattle.abelian.proofs.Tests.{is-true, is-false, passes, fails, decided, iff-equal}
+use Rattle.abelian.proofs.Tests.{is-true, is-false, passes, decided, iff-equal}
 use Rattle.abelian.proofs.Lists.{mem-upFrom, upFrom-mem, upFrom-last, firstOf-found, firstOf-none, none-firstOf, firstOf-append, firstOf-agree}
 use Rattle.abelian.proofs.Pairs.{InRange, in-range, range-in}
 use Rattle.periods.proofs.OnceEnded.{once-ended}

@@ -1,25 +1,25 @@
 -- Laws of the test `isPeriod` on a word of letters and a pair in range: what a head, a block or a tail that breaks the rule says, and
 -- that nothing else is left to ask. There the lengths of head and tail need no test, since both are below p.
-use mathlib.Core.Path.{_≡_, refl, sym, ap, subst, _∙_}
-use mathlib.Core.Bool.{Bool, true, false}
+use mathlib.Core.Path.{_≡_, sym}
+use mathlib.Core.Bool.{true, false}
 use mathlib.Core.Logic.{⊎-elim, _≢_}
 use mathlib.Core.List.{List}
 use Prim.Native.Nat.{ℕ, suc, _+_, _-_, _*_, _≤_, _<_}
 use native.Mathlib.Nat.{suc-mul, le-div-iff-mul-le}
 use native.Mathlib.Omega.{arith}
-use lib.ListN.{length, take, drop, length-drop, length-take}
+use lib.ListN.{length, drop, length-drop}
 use lib.Seq.{take-all}
 use lib.Arith.{digits-div}
 use lib.Dec.{T, eqb}
 use borrow.Author.Tests.{eqb-true, eqb-false}
 use Rattle.abelian.specs.Lists.{same}
-use Rattle.abelian.specs.Words.{ofLetters, vector, noneAbove, contained, part}
+use Rattle.abelian.specs.Words.{ofLetters, vector, noneAbove, part}
 use Rattle.abelian.specs.Periods.{Pair, headOf, block, wholeBlocks, tailOf, isPeriod}
-use Rattle.abelian.proofs.Tests.{is-true, is-false, passes, fails, decided, iff-equal}
+use Rattle.abelian.proofs.Tests.{is-false, passes, fails, decided, iff-equal}
 use Rattle.abelian.proofs.Lists.{equal-same}
 use Rattle.abelian.proofs.Counts.{letters-take, letters-drop, letters-part, shorter-contained, contained-noneAbove}
 use Rattle.abelian.proofs.Pairs.{InRange}
-use Rattle.abelian.proofs.Definition1.{Alike, Conditions, period-conditions, conditions-period, block-length, head-length}
+use Rattle.abelian.proofs.Definition1.{Alike, period-conditions, conditions-period, block-length, head-length}
 use Rattle.periods.proofs.OnceEnded.{Reach, reach}
 
 -- block 1 begins behind the head

@@ -1,19 +1,18 @@
 -- Once ended, ended for good (document 004, Proposition 4.1): an Abelian period of a word is one of each prefix for which it is in range.
-use mathlib.Core.Path.{_≡_, refl, sym, ap, subst, _∙_}
-use mathlib.Core.Logic.{_⊎_, inl, inr, ⊎-elim}
-use mathlib.Core.List.{List, [], _∷_, _++_, List·Memᴰ}
+use mathlib.Core.Path.{_≡_, sym, ap, _∙_}
+use mathlib.Core.List.{List, [], _∷_, List·Memᴰ}
 use Prim.Native.Nat.{ℕ, zero, suc, _+_, _-_, _*_, _/_, _≤_, _<_, min}
 use native.Mathlib.Nat.{suc-mul, mul-le-mul-right, div-mul-le-self, lt-div-mul-add, le-div-iff-mul-le}
 use native.Mathlib.Decide.{decLt}
 use native.Mathlib.Omega.{arith}
 use lib.ListN.{length, take, drop, length-take, length-drop}
-use lib.Seq.{take-take, drop-drop, take-all, take-nil, drop-nil}
+use lib.Seq.{take-take, take-nil}
 use lib.Dec.{T}
-use Rattle.abelian.specs.Words.{ofLetters, letters, count, vector, noneAbove, contained, part}
+use Rattle.abelian.specs.Words.{ofLetters, letters, count, vector, part}
 use Rattle.abelian.specs.Periods.{Pair, headOf, block, wholeBlocks, tailOf, isPeriod}
 use Rattle.abelian.proofs.Counts.{count-take-drop, vector-counts, noneAbove-counts, counts-noneAbove, letters-take, letters-drop, letters-part, shorter-contained, contained-noneAbove}
 use Rattle.abelian.proofs.Pairs.{InRange}
-use Rattle.abelian.proofs.Definition1.{Alike, Conditions, period-conditions, conditions-period, block-length}
+use Rattle.abelian.proofs.Definition1.{Conditions, period-conditions, conditions-period, block-length}
 
 -- ---- parts of a prefix
 

@@ -1,12 +1,11 @@
 -- How many pairs are in range for n: floor((n+1)/2) × floor((n+2)/2).
 use mathlib.Core.Path.{_≡_, refl, sym, ap, _∙_}
-use mathlib.Core.List.{List, [], _∷_, _++_, map}
-use Prim.Native.Nat.{ℕ, zero, suc, _+_, _-_, _*_, _/_, _≤_, _<_, min}
-use native.Mathlib.Nat.{mul-comm, suc-mul, mul-suc, add-mul}
+use Prim.Native.Nat.{ℕ, zero, suc, _+_, _-_, _*_, _/_, _≤_}
+use native.Mathlib.Nat.{mul-comm, suc-mul}
 use native.Mathlib.Omega.{arith}
 use lib.ListN.{length, length-append, length-map}
-use Rattle.abelian.specs.Lists.{upFrom, sum, each}
-use Rattle.abelian.specs.Periods.{Pair, pair, heads, row, pairs}
+use Rattle.abelian.specs.Lists.{upFrom, each}
+use Rattle.abelian.specs.Periods.{pair, heads, row, pairs}
 use Rattle.abelian.proofs.Lists.{length-upFrom}
 
 -- a row has a pair for each head

@@ -1,8 +1,7 @@
 -- `board::count_open` meets its contract. The invariant of its loop: the open pairs of the rows passed are counted. The measure is what is left of
 -- the rows. Assumes nothing.
-use mathlib.Core.Path.{_≡_, refl, sym, ap, ap₂, _∙_}
+use mathlib.Core.Path.{_≡_, refl, ap, ap₂, _∙_}
 use Prim.Native.Nat.{ℕ, suc, _+_, _-_, _*_, _≤_}
-use native.Mathlib.Numerals.{add-one}
 use native.Mathlib.Omega.{arith}
 use lib.ListN.{length, take, drop, length-append, length-take}
 use Rattle.abelian.specs.Words.{longest, count, part}

@@ -2,7 +2,6 @@
 use native.Mathlib.Omega.{arith}
 use Rattle.abelian.specs.Words.{longest}
 use Rattle.abelian.specs.Output.{periodWord, outputWord}
-use borrow.Author.Needs.{needs}
 use Rattle.board.proofs.period_word.Statement.{statement}
 use Rattle.board.proofs.period_word.Tie as tie
 

@@ -6,7 +6,6 @@ use Rattle.abelian.specs.Trackers.{boardSize}
 use Rattle.abelian.proofs.Pairs.{InRange, in-range}
 use Rattle.board.specs.Places.{placeOf}
 use Rattle.board.proofs.Rows.{start-within}
-use borrow.Author.Needs.{needs}
 use Rattle.board.proofs.place.Statement.{statement}
 use Rattle.board.proofs.place.Tie as tie
 

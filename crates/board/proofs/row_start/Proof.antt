@@ -5,7 +5,6 @@ use Prim.Native.Nat.{ℕ, suc, _≤_}
 use native.Mathlib.Nat.{zero-add}
 use native.Mathlib.Omega.{arith}
 use lib.ListN.{getD}
-use borrow.Author.Needs.{needs}
 use Rattle.abelian.specs.Lists.{upFrom}
 use Rattle.abelian.specs.Words.{longest}
 use Rattle.abelian.specs.Trackers.{boardSize}

@@ -1,17 +1,16 @@
 -- `periods::holds` meets its contract. The invariant of its loop: the whole blocks up to `at` have block 1's vector. The measure is what is left of
 -- the length. Assumes nothing.
-use Prim.Native.Nat.{ℕ, suc, _≤_, _<_, _-_, _+_}
-use mathlib.Core.Path.{_≡_, refl, sym, ap, ap₂, _∙_}
-use mathlib.Core.Bool.{Bool, true, false, not, Bool·not-not}
-use mathlib.Core.List.{List, []}
+use Prim.Native.Nat.{ℕ, suc, _<_, _-_, _+_}
+use mathlib.Core.Path.{_≡_, sym, ap, ap₂, _∙_}
+use mathlib.Core.Bool.{Bool, not, Bool·not-not}
+use mathlib.Core.List.{List}
 use native.Mathlib.Nat.{zero-add}
 use native.Mathlib.Omega.{arith}
-use lib.ListN.{length, take, getD}
-use lib.Dec.{T}
+use lib.ListN.{length}
 use borrow.Author.Needs.{needs}
 use borrow.Author.Tests.{not-true, not-false}
 use Rattle.abelian.specs.Lists.{same}
-use Rattle.abelian.specs.Words.{longest, vector, noneAbove, part}
+use Rattle.abelian.specs.Words.{vector, noneAbove}
 use Rattle.abelian.specs.Periods.{Pair, pair, headOf, block, wholeBlocks, tailOf, isPeriod}
 use Rattle.abelian.proofs.Tests.{passes}
 use Rattle.abelian.proofs.Lists.{same-equal}

@@ -6,12 +6,11 @@ use native.Mathlib.Omega.{arith}
 use lib.ListN.{length}
 use Rattle.abelian.specs.Words.{longest}
 use Rattle.abelian.specs.EndedLengths.{boardOf}
-use Rattle.abelian.specs.Trackers.{boardSize, entryAdded}
+use Rattle.abelian.specs.Trackers.{entryAdded}
 use Rattle.board.specs.Ending.{allEnded}
 use Rattle.board.proofs.Places.{length-boardOf}
 use Rattle.board.proofs.Rows.{openUpTo, openUpTo-all}
 use Rattle.board.proofs.EndedRows.{out-of-range-kept, upTo, all-upTo, Gone, none-gone, next-gone, few-in-row}
-use borrow.Author.Needs.{needs}
 use Rattle.board.proofs.ending.end_pairs.Statement.{statement}
 use Rattle.board.proofs.ending.end_pairs.Tie as tie
 

@@ -10,7 +10,6 @@ use Rattle.board.proofs.Places.{length-boardOf}
 use Rattle.board.proofs.EndedRows.{upTo, none-upTo, all-upTo}
 use Rattle.listers.specs.Passing.{entryPassed, allPassed}
 use Rattle.listers.proofs.Passed.{out-of-range-kept, next-passed}
-use borrow.Author.Needs.{needs}
 use Rattle.listers.proofs.passing.pass_over.Statement.{statement}
 use Rattle.listers.proofs.passing.pass_over.Tie as tie
 

@@ -1,0 +1,20 @@
+-- `capi::luff_list_squares` meets its contract: what is stored is what `list_squares` answers. Assumes nothing.
+use mathlib.Core.Path.{_∙_}
+use borrow.Author.Needs.{needs}
+use Rattle.capi.proofs.luff_list_squares.Statement.{statement}
+use Rattle.capi.proofs.luff_list_squares.Tie as tie
+
+list-squares-requires : tie.Need-list-squares-requires
+list-squares-requires c κs = search needs
+
+store-wrote-requires : tie.Need-store-wrote-requires
+store-wrote-requires c κs = search needs
+
+same-length : tie.Need-same-length
+same-length c = search needs
+
+returns : tie.Need-returns
+returns c = c .store-wrote .ensures _ ∙ c .before .before .before .before .before .list-squares .ensures
+
+pub luff-list-squares-spec : {M : Type 1} → statement M
+luff-list-squares-spec = tie.close (tie.spec list-squares-requires store-wrote-requires same-length returns)
