@@ -1,20 +1,30 @@
 -- Laws of two vectors, place by place: none above, the same, and the difference.
 use mathlib.Core.Path.{_≡_, refl, sym, ap}
-use mathlib.Core.Bool.{Bool, true, false, _&&_, and-assoc, and-true, and-false}
-use mathlib.Core.Logic.{_⊎_, inl, inr}
+use mathlib.Core.Bool.{Bool, true, false, not, _&&_, _||_, and-assoc, and-true}
+use mathlib.Core.Logic.{⊎-elim}
 use mathlib.Core.List.{List, [], _∷_}
 use Prim.Native.Nat.{ℕ, zero, suc, _+_, _-_, _≤_, _<_}
 use native.Mathlib.Numerals.{add-one}
 use native.Mathlib.Omega.{arith}
 use lib.ListN.{length, take, getD}
 use lib.Seq.{take-all}
-use lib.Dec.{T, leb, eqb, leb→le}
-use borrow.Author.Tests.{ne-eqb}
+use lib.Dec.{T, leb, ltb, leb→le}
+use borrow.Author.Tests.{leb-true, leb-false, lt-ltb, le-ltb}
 use Rattle.abelian.specs.Words.{noneAbove}
-use Rattle.abelian.proofs.Tests.{left, right}
+use Rattle.abelian.proofs.Tests.{left, right, decided}
 use Rattle.words.specs.Differences.{minus}
 
--- a test that goes through two lists place by place, and a count of the places at which it fails: the count is 0 exactly where the test passes
+-- what fails in one of two parts
+not-and : (a b : Bool) → not (a && b) ≡ (not a || not b)
+not-and true b = refl
+not-and false b = refl
+
+-- above is not at most
+pub above-not-le : (a b : ℕ) → ltb b a ≡ not (leb a b)
+above-not-le a b =
+    ⊎-elim (λ (l : leb a b ≡ true). rw l (le-ltb b a (leb-true a b l))) (λ (g : leb a b ≡ false). rw g (lt-ltb b a (leb-false a b g))) (decided (leb a b))
+
+-- a test that goes through two lists place by place, and whether it has failed at some place so far
 module _ (test : ℕ → ℕ → Bool) (through : List ℕ → List ℕ → Bool) (none : through [] [] ≡ true)
     (cons : (a b : ℕ) (u v : List ℕ) → through (a ∷ u) (b ∷ v) ≡ (test a b && through u v)) where
   through-more : (u v : List ℕ) (j : ℕ) → j < length u → j < length v → through (take (suc j) u) (take (suc j) v) ≡ (through (take j u) (take j v) && test (getD u j 0) (getD v j 0))
@@ -24,21 +34,14 @@ module _ (test : ℕ → ℕ → Bool) (through : List ℕ → List ℕ → Bool
   through-more (a ∷ u) (b ∷ v) (suc j) l m =
       rw (cons, cons, through-more u v j (omega arith) (omega arith)) (sym (and-assoc (test a b) (through (take j u) (take j v)) (test (getD u j 0) (getD v j 0))))
 
-  module _ (u v : List ℕ) (found : ℕ) where
+  module _ (u v : List ℕ) (found : Bool) (j : ℕ) (e : found ≡ not (through (take j u) (take j v))) where
     -- one place more
-    pub fails-more : (j found′ : ℕ) → j < length u → j < length v → eqb found 0 ≡ through (take j u) (take j v)
-        → ((test (getD u j 0) (getD v j 0) ≡ false) × (found′ ≡ found + 1)) ⊎ ((test (getD u j 0) (getD v j 0) ≡ true) × (found′ ≡ found))
-        → eqb found′ 0 ≡ through (take (j + 1) u) (take (j + 1) v)
-    fails-more j found′ l m e came = rw (add-one, through-more u v j l m) (step came)
-      where
-        step : ((test (getD u j 0) (getD v j 0) ≡ false) × (found′ ≡ found + 1)) ⊎ ((test (getD u j 0) (getD v j 0) ≡ true) × (found′ ≡ found))
-            → eqb found′ 0 ≡ (through (take j u) (take j v) && test (getD u j 0) (getD v j 0))
-        step (inl w) = rw (w .0, w .1, and-false) (ne-eqb (found + 1) 0 (omega arith))
-        step (inr w) = rw (w .0, w .1, and-true) e
+    pub fails-more : (fails : Bool) → j < length u → j < length v → fails ≡ not (test (getD u j 0) (getD v j 0)) → (found || fails) ≡ not (through (take (j + 1) u) (take (j + 1) v))
+    fails-more fails l m f = rw (add-one, through-more u v j l m, f, e) (sym (not-and (through (take j u) (take j v)) (test (getD u j 0) (getD v j 0))))
 
     -- all places
-    pub fails-all : (j : ℕ) → length u ≤ j → length v ≤ j → eqb found 0 ≡ through (take j u) (take j v) → eqb found 0 ≡ through u v
-    fails-all j l m e = rw (take-all j u l, take-all j v m) at e
+    pub fails-all : length u ≤ j → length v ≤ j → found ≡ not (through u v)
+    fails-all l m = rw (take-all j u l, take-all j v m) at e
 
 -- where no count is above, that at each place is not
 pub noneAbove-at : (u v : List ℕ) → T (noneAbove u v) → (j : ℕ) → j < length u → getD u j 0 ≤ getD v j 0

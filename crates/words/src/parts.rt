@@ -30,30 +30,26 @@ pub fn difference(longer: [u8; LETTERS], shorter: [u8; LETTERS]) -> [u8; LETTERS
 pub fn exceeds(u: [u8; LETTERS], v: [u8; LETTERS]) -> bool
     ensures { λ r. ⌜ r ≡ not (noneAbove u v) ⌝ }
 {
-    let mut found: u8 = 0;
+    let mut found = false;
     let mut j = 0;
     while j < LETTERS {
-        if v[j] < u[j] {
-            found += 1;
-        }
+        found = found | (v[j] < u[j]);
         j += 1;
     }
-    found != 0
+    found
 }
 
 // Whether the two vectors differ in some count.
 pub fn differs(u: [u8; LETTERS], v: [u8; LETTERS]) -> bool
     ensures { λ r. ⌜ r ≡ not (same u v) ⌝ }
 {
-    let mut found: u8 = 0;
+    let mut found = false;
     let mut j = 0;
     while j < LETTERS {
-        if u[j] != v[j] {
-            found += 1;
-        }
+        found = found | (u[j] != v[j]);
         j += 1;
     }
-    found != 0
+    found
 }
 
 // The vector of the part between two prefixes, by the table of prefix counts: what the row of the longer one counts more.
