@@ -1,0 +1,215 @@
+//! What is timed: the library's calls and their peers, on six kinds of words.
+use crate::measure::{best, lower, on_copies, repeated, Timed, Turn, SIZES};
+use luffbutton::generator::{alternating, fibonacci, Generator};
+use luffbutton::library::Library;
+use luffbutton::peers::{add_in_place, list_brute_force, list_counting_anew, list_full_002};
+use luffbutton::peers::{list_select_based, list_sliding_windows, OnLine};
+use luffbutton::vocabulary::{Answer, Calls, Fields, BOARD, FIRST_LETTER, LONGEST};
+use std::hint::black_box;
+
+/// A word of n letters.
+type Word = fn(usize) -> Vec<u8>;
+
+/// The kinds of words.
+const WORDS: [(&str, Word); 6] = [
+    ("one letter", |n| vec![FIRST_LETTER; n]),
+    ("two by turns", alternating),
+    ("Fibonacci", fibonacci),
+    ("random of 2", |n| Generator::new(2).uniform(n, 2)),
+    ("random of 4", |n| Generator::new(4).uniform(n, 4)),
+    ("random of 16", |n| Generator::new(16).uniform(n, 16)),
+];
+
+/// A way to make a list of a word.
+type Lister = fn(&[u8], &mut [u32]) -> Answer;
+
+/// A list call: its name, and the contenders, the library first.
+pub type ListCall = (&'static str, &'static [(&'static str, Lister)]);
+
+/// The list calls on words.
+pub const LISTS: [ListCall; 5] = [
+    (
+        "list_plain",
+        &[
+            ("library", |word, out| Library.list_plain(word, out)),
+            ("004, brute force", list_brute_force),
+            ("counting anew", list_counting_anew),
+        ],
+    ),
+    (
+        "list_skipping",
+        &[
+            ("library", |word, out| Library.list_skipping(word, out)),
+            ("004, select", list_select_based),
+        ],
+    ),
+    (
+        "list_full_scaled",
+        &[
+            ("library", |word, out| Library.list_full_scaled(word, out)),
+            ("002", list_full_002),
+        ],
+    ),
+    (
+        "list_squares",
+        &[
+            ("library", |word, out| Library.list_squares(word, out)),
+            ("sliding windows", list_sliding_windows),
+        ],
+    ),
+    (
+        "report",
+        &[("library", |word, out| Library.report(word, out))],
+    ),
+];
+
+/// Times a function for each word and each size.
+fn over_words(time: impl Fn(&[u8]) -> Vec<f64>) -> Vec<(&'static str, Vec<Vec<f64>>)> {
+    let sizes = |word: Word| SIZES.iter().map(|&n| time(&word(n))).collect();
+    WORDS
+        .iter()
+        .map(|&(name, word)| (name, sizes(word)))
+        .collect()
+}
+
+/// A slice for any list.
+fn places() -> Vec<u32> {
+    vec![0; 2 * BOARD]
+}
+
+/// Times a list call.
+pub fn time_lists(&(call, contenders): &ListCall) -> Timed {
+    let time = |word: &[u8]| {
+        assert_lists_agree(contenders, word);
+        let turn = |&(_, lister): &(&str, Lister)| -> Turn<'_> {
+            let mut out = places();
+            repeated(move || lister(black_box(word), black_box(&mut out)))
+        };
+        best(contenders.iter().map(turn).collect())
+    };
+    Timed {
+        call,
+        contenders: contenders.iter().map(|&(name, _)| name).collect(),
+        words: over_words(time),
+    }
+}
+
+/// All contenders give the same numbers and words.
+fn assert_lists_agree(contenders: &[(&str, Lister)], word: &[u8]) {
+    let run = |lister: Lister| {
+        let mut out = places();
+        (lister(word, &mut out), out)
+    };
+    let due = run(contenders[0].1);
+    for &(name, lister) in contenders {
+        assert!(
+            run(lister) == due,
+            "{name} disagrees on {}",
+            word.escape_ascii()
+        );
+    }
+}
+
+/// A tracker to which the letters were added.
+fn tracked(letters: &[u8]) -> Fields {
+    let mut tracker = Fields::zero();
+    for &letter in letters {
+        assert_eq!(Library.add(&mut tracker, letter), Answer::default());
+    }
+    tracker
+}
+
+fn on_line(letters: &[u8]) -> OnLine {
+    let mut tracker = OnLine::fresh();
+    for &letter in letters {
+        assert_eq!(tracker.add(letter), Answer::default());
+    }
+    tracker
+}
+
+/// Times the add of a word's last letter.
+pub fn time_adds() -> Timed {
+    let time = |word: &[u8]| {
+        let (&last, before) = word.split_last().expect("a letter");
+        assert_adds_agree(word);
+        best(vec![
+            on_copies(tracked(before), move |tracker: &mut Fields| {
+                Library.add(tracker, last)
+            }),
+            on_copies(tracked(before), move |tracker: &mut Fields| {
+                add_in_place(tracker, last)
+            }),
+            on_copies(on_line(before), move |tracker: &mut OnLine| {
+                tracker.add(last)
+            }),
+        ])
+    };
+    Timed {
+        call: "add",
+        contenders: vec!["library", "in place", "004, on-line"],
+        words: over_words(time),
+    }
+}
+
+/// All contenders leave the same tracker.
+fn assert_adds_agree(word: &[u8]) {
+    let due = tracked(word);
+    let (&last, before) = word.split_last().expect("a letter");
+    let mut in_place = tracked(before);
+    assert_eq!(add_in_place(&mut in_place, last), Answer::default());
+    assert!(
+        in_place == due,
+        "in place disagrees on {}",
+        word.escape_ascii()
+    );
+    let on_line = on_line(word);
+    assert!(
+        on_line.board == due.board && on_line.bytes == due.bytes,
+        "on-line disagrees"
+    );
+}
+
+/// The other calls of a tracker that holds 240 letters: for each word, a time each.
+pub struct Trackers {
+    pub calls: [&'static str; 5],
+    pub words: Vec<(&'static str, Vec<f64>)>,
+}
+
+impl Trackers {
+    /// The better of two passes, time by time.
+    pub fn better(mut self, other: &Trackers) -> Trackers {
+        for ((_, times), (_, others)) in self.words.iter_mut().zip(&other.words) {
+            lower(times, others);
+        }
+        self
+    }
+}
+
+/// Times take-back, list, fresh, clear and the replay of a word of 240 letters.
+pub fn time_trackers() -> Trackers {
+    let time = |word: &[u8]| {
+        let (mut out, mut replayed) = (places(), places());
+        let (mut listed, mut fresh, mut cleared, mut made) = (
+            tracked(word),
+            Fields::zero(),
+            Fields::zero(),
+            Fields::zero(),
+        );
+        best(vec![
+            on_copies(tracked(word), |tracker: &mut Fields| {
+                Library.take_back(tracker)
+            }),
+            repeated(move || Library.list(black_box(&mut listed), black_box(&mut out))),
+            repeated(move || Library.fresh(black_box(&mut fresh))),
+            repeated(move || Library.clear(black_box(&mut cleared))),
+            repeated(|| Library.replay(black_box(&mut made), black_box(word), &mut replayed)),
+        ])
+    };
+    Trackers {
+        calls: ["take_back", "list", "fresh", "clear", "replay"],
+        words: WORDS
+            .iter()
+            .map(|&(name, word)| (name, time(&word(LONGEST))))
+            .collect(),
+    }
+}
