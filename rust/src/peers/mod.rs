@@ -123,7 +123,7 @@ fn exceeds(shorter: &Row, longer: &Row, block: &Row) -> bool {
 }
 
 /// `differs` as a function of its own: where it is inlined into a loop over blocks, the compiler carries each row to the next block byte
-/// by byte, and the whole takes three to four times as long.
+/// by byte, and the whole takes two to four times as long.
 #[inline(never)]
 fn differs_called(shorter: &Row, longer: &Row, block: &Row) -> bool {
     differs(shorter, longer, block)

@@ -7,6 +7,9 @@ use luffbutton::peers::{list_select_based, list_sliding_windows, OnLine};
 use luffbutton::vocabulary::{Answer, Calls, Fields, BOARD, FIRST_LETTER, LONGEST};
 use std::hint::black_box;
 
+/// A byte that an add refuses.
+const NOT_A_LETTER: u8 = b'?';
+
 /// A word of n letters.
 type Word = fn(usize) -> Vec<u8>;
 
@@ -169,9 +172,19 @@ fn assert_adds_agree(word: &[u8]) {
     );
 }
 
-/// The other calls of a tracker that holds 240 letters: for each word, a time each.
+/// What else is timed of a tracker that holds 240 letters.
+pub const TRACKER_CALLS: [&str; 7] = [
+    "`take_back`",
+    "`list`",
+    "`fresh`",
+    "`clear`",
+    "`replay`",
+    "`add`, refused",
+    "a copy in Rust",
+];
+
+/// For each word, a time for each of these.
 pub struct Trackers {
-    pub calls: [&'static str; 5],
     pub words: Vec<(&'static str, Vec<f64>)>,
 }
 
@@ -185,31 +198,39 @@ impl Trackers {
     }
 }
 
-/// Times take-back, list, fresh, clear and the replay of a word of 240 letters.
+/// Times the other calls on a tracker that holds a word of 240 letters.
 pub fn time_trackers() -> Trackers {
-    let time = |word: &[u8]| {
-        let (mut out, mut replayed) = (places(), places());
-        let (mut listed, mut fresh, mut cleared, mut made) = (
-            tracked(word),
-            Fields::zero(),
-            Fields::zero(),
-            Fields::zero(),
-        );
-        best(vec![
-            on_copies(tracked(word), |tracker: &mut Fields| {
-                Library.take_back(tracker)
-            }),
-            repeated(move || Library.list(black_box(&mut listed), black_box(&mut out))),
-            repeated(move || Library.fresh(black_box(&mut fresh))),
-            repeated(move || Library.clear(black_box(&mut cleared))),
-            repeated(|| Library.replay(black_box(&mut made), black_box(word), &mut replayed)),
-        ])
-    };
+    let time = |&(name, word): &(&'static str, Word)| (name, time_tracker(&word(LONGEST)));
     Trackers {
-        calls: ["take_back", "list", "fresh", "clear", "replay"],
-        words: WORDS
-            .iter()
-            .map(|&(name, word)| (name, time(&word(LONGEST))))
-            .collect(),
+        words: WORDS.iter().map(time).collect(),
     }
+}
+
+fn time_tracker(word: &[u8]) -> Vec<f64> {
+    let full = tracked(word);
+    let (mut out, mut replayed) = (places(), places());
+    let (mut listed, mut refusing, mut copied) = (full.clone(), full.clone(), full.clone());
+    let (mut fresh, mut cleared, mut made) = (full.clone(), full.clone(), full.clone());
+    best(vec![
+        on_copies(full.clone(), |tracker: &mut Fields| {
+            Library.take_back(tracker)
+        }),
+        repeated(|| Library.list(black_box(&mut listed), black_box(&mut out))),
+        repeated(|| Library.fresh(black_box(&mut fresh))),
+        repeated(|| Library.clear(black_box(&mut cleared))),
+        repeated(|| Library.replay(black_box(&mut made), black_box(word), &mut replayed)),
+        repeated(|| Library.add(black_box(&mut refusing), NOT_A_LETTER)),
+        repeated(|| black_box(&mut copied).clone_from(black_box(&full))),
+    ])
+}
+
+/// How many pairs the two listers try of each word of 240 letters, and how many Abelian periods it has.
+pub fn trials() -> Vec<(&'static str, [usize; 3])> {
+    let tried = |&(name, word): &(&'static str, Word)| {
+        let (word, mut out) = (word(LONGEST), places());
+        let plain = Library.list_plain(&word, &mut out);
+        let skipping = Library.list_skipping(&word, &mut out);
+        (name, [plain.trials, skipping.trials, plain.written])
+    };
+    WORDS.iter().map(tried).collect()
 }

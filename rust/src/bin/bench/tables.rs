@@ -1,5 +1,5 @@
 //! The tables, as markdown.
-use crate::contenders::Trackers;
+use crate::contenders::{trials, Trackers, TRACKER_CALLS};
 use crate::measure::{Timed, SIZES};
 use std::fmt::Write;
 
@@ -11,6 +11,7 @@ pub fn markdown(all: &[Timed], full: &Trackers) -> String {
         call_table(&mut text, timed);
     }
     tracker_table(&mut text, full);
+    trials_table(&mut text);
     text
 }
 
@@ -95,11 +96,23 @@ fn call_table(text: &mut String, timed: &Timed) {
 fn tracker_table(text: &mut String, full: &Trackers) {
     text.push_str("A tracker of 240 letters, microseconds of the library's calls; `replay` adds all 240 and lists.\n\n");
     let mut cells = vec!["word".to_string()];
-    cells.extend(full.calls.iter().map(|call| format!("`{call}`")));
+    cells.extend(TRACKER_CALLS.map(str::to_string));
     header(text, &cells);
     for (word, times) in &full.words {
         let mut cells = vec![word.to_string()];
         cells.extend(times.iter().map(|&time| three_digits(time)));
+        row(text, &cells);
+    }
+}
+
+/// How many pairs the listers try.
+fn trials_table(text: &mut String) {
+    text.push_str("\nPairs tried of a word of 240 letters, and its Abelian periods.\n\n");
+    let names = ["word", "`list_plain`", "`list_skipping`", "periods"];
+    header(text, &names.map(str::to_string));
+    for (word, numbers) in trials() {
+        let mut cells = vec![word.to_string()];
+        cells.extend(numbers.map(|number| number.to_string()));
         row(text, &cells);
     }
 }
