@@ -1,0 +1,20 @@
+-- Document 01's example of the program, and of a refusal, computed on the definitions.
+use mathlib.Core.Path.{_≡_, refl}
+use Rattle.abelian.specs.Words.{alphabetSize, firstLetter, longest, letters, isLetter, outsideFrom, firstOutside, count, vector, noneAbove, contained}
+use Rattle.abelian.specs.Periods.{inRange, heads, row, pairs, headOf, block, wholeBlocks, tailOf, isPeriod, periods}
+use Rattle.abelian.specs.FullPeriods.{divides, fullPeriods}
+use Rattle.abelian.specs.Squares.{isSquare, squareStarts}
+use Rattle.abelian.specs.Covers.{isCoverLength, coverLength}
+use Rattle.abelian.specs.Refusals.{firstHolding, wordRefusal}
+use Rattle.cycles.specs.Text.{ascii, places, decimal, spaced, line}
+use Rattle.cycles.specs.Lines.{wordIn, lengthLine, fullLine, periodLine, squareLine, coverLine, refusalLine, acceptedLines, linesUnless, printed}
+
+-- "Input `abb`".
+pub abb-printed : printed (wordIn (ascii "abb\n")) ≡ ascii "n 3\nfull 3\nperiod 0 2\nperiod 0 3\nsquare 2 1\ncover no\n"
+unfolding alphabetSize firstLetter longest letters isLetter outsideFrom firstOutside count vector noneAbove contained inRange heads row pairs headOf block wholeBlocks tailOf isPeriod periods divides fullPeriods isSquare squareStarts isCoverLength coverLength firstHolding wordRefusal places decimal spaced line wordIn lengthLine fullLine periodLine squareLine coverLine refusalLine acceptedLines linesUnless printed
+abb-printed = refl
+
+-- "`aBc`, value 2".
+pub aBc-printed : printed (wordIn (ascii "aBc\n")) ≡ ascii "refused 2 2\n"
+unfolding alphabetSize firstLetter longest isLetter outsideFrom firstOutside firstHolding wordRefusal places decimal spaced line wordIn refusalLine linesUnless printed
+aBc-printed = refl
