@@ -4,7 +4,7 @@ use mathlib.Core.Bool.{false}
 use mathlib.Core.Logic.{_↔_}
 use mathlib.Core.List.{List, [], _∷_, List·Memᴰ, List·Memᴰ·not-nil}
 use Prim.Native.Nat.{ℕ, zero, suc, _+_, _-_, _*_, _/_, _%_, _≤_, _<_, _∣_}
-use native.Mathlib.Nat.{zero-add, zero-mul, suc-mul, div-mul-cancel, mul-le-mul-right, lt-of-mul-lt-mul-right, le-div-iff-mul-le, mod-eq-zero-of-dvd}
+use native.Mathlib.Nat.{zero-add, zero-mul, suc-mul, div-mul-cancel, mul-le-mul-right, lt-of-mul-lt-mul-right, le-div-iff-mul-le, mod-eq-zero-of-dvd, le-of-dvd, dvd-sub, dvd-refl}
 use native.Mathlib.Omega.{arith}
 use lib.ListN.{length, take, length-drop}
 use lib.Dec.{T}
@@ -123,6 +123,10 @@ module _ (w : List ℕ) (p : ℕ) where
   pub indivisible-not-full : (length w % p ≡ 0 → ⊥) → isFull w p ≡ false
   indivisible-not-full n = is-false (isFull w p) (λ t. n (mod-eq-zero-of-dvd p (full-divides t)))
 
+  -- nor one above n / 2 but n
+  pub half-not-full : length w < p + p → p < length w → isFull w p ≡ false
+  half-not-full l h = is-false (isFull w p) (λ t. let d : p ≤ length w - p = le-of-dvd (omega arith) (dvd-sub p (full-divides t) (dvd-refl p)) in omega arith)
+
   -- a number is in the list of full periods exactly where it is one
   pub full-listed : List·Memᴰ p (fullPeriods w) ↔ T (isFull w p)
   unfolding fullPeriods isFull
@@ -130,3 +134,11 @@ module _ (w : List ℕ) (p : ℕ) where
     λ m. mem-keep (isFull w) (upFrom 1 (length w)) m .1,
     λ t. keep-mem (isFull w) (upFrom 1 (length w)) (upFrom-mem 1 (length w) p (full-positive t) (let h : p ≤ length w = full-within t in omega arith)) t,
   )
+
+-- n is a full period
+pub whole-full : (w : List ℕ) → T (ofLetters w) → 1 ≤ length w → T (isFull w (length w))
+whole-full w t some = alike-full w (length w) t some (omega arith) (dvd-refl (length w)) alike
+  where
+    alike : (i : ℕ) → i * length w < length w → vector (part w (i * length w) (length w)) ≡ vector (take (length w) w)
+    alike zero l = ap (λ (k : ℕ). vector (part w k (length w))) (zero-mul (length w))
+    alike (suc i) l = absurd (omega (arith, suc-mul i (length w)))

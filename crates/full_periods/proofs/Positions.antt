@@ -16,13 +16,13 @@ use Rattle.abelian.specs.FullPeriods.{divides, countDivisor, scale, isScaled, s
 use Rattle.abelian.proofs.Tests.{is-true, is-false, passes, fails, both, right, decided, iff-equal}
 use Rattle.abelian.proofs.Lists.{mem-keep, keep-mem, all-mem, mem-all, mem-upFrom, upFrom-mem, keep-agree}
 use Rattle.words.proofs.Vectors.{vector-at, places-letters, place-letter}
-use Rattle.full_periods.specs.Marks.{isMarked, marked, marksMultiples, isFull, scaledMarks}
+use Rattle.full_periods.specs.Marks.{Steps, isMarked, marked, marksMultiples, isFull, scaledMarks}
 use Rattle.full_periods.specs.Divisors.{divided, unitCounts, isMultiple}
 use Rattle.full_periods.proofs.Lists.{below-or-not}
 use Rattle.full_periods.proofs.Tables.{marks-isMarked}
 use Rattle.full_periods.proofs.Divisors.{dvd-divides}
 use Rattle.full_periods.proofs.Blocks.{next-multiple, full-divides, full-positive}
-use Rattle.full_periods.proofs.Lemma3.{scale-positive, scaled-divides, proportional-scaled, end-scaled, full-multiples-scaled, multiples-scaled-full}
+use Rattle.full_periods.proofs.Lemma3.{scale-positive, scale-divides, scaled-divides, proportional-scaled, end-scaled, full-multiples-scaled, multiples-scaled-full}
 
 -- k is a scaled position of the word
 abbrev pub isPosition : List ℕ → ℕ → Bool
@@ -119,6 +119,10 @@ module _ (w : List ℕ) (t : T (ofLetters w)) (some : 0 < length w) where
     scaled-marked : (k : ℕ) → k ≤ length w → isMarked (scaledMarks w) k ≡ isScaled w k
     unfolding scaledMarks
     scaled-marked k l = marks-isMarked (isPosition w) k (omega arith) ∙ within-position w k l
+
+    -- it marks multiples of s only
+    pub scaled-steps : {step : ℕ} {table : List ℕ} → step ≡ scale w → table ≡ scaledMarks w → Steps step (length w) table
+    scaled-steps e f = rw (e, f) record { end = scale-divides w t; multiples = λ k l m. scaled-divides w t some k (subst T (scaled-marked k l) m) }
 
     -- T by the table
     pub gap-marked : scaledGap w ≡ largest (distances 0 (marked (length w) (scaledMarks w))) / scale w

@@ -1,10 +1,10 @@
 -- Laws of tables of marks: what a table holds at each number, how a table is filled from the front, and what it marks up to a number.
-use mathlib.Core.Path.{_≡_, refl, sym, ap, _∙_}
+use mathlib.Core.Path.{_≡_, refl, sym, ap, ap₂, _∙_}
 use mathlib.Core.Bool.{Bool, true, false}
 use mathlib.Core.Logic.{⊎-elim, _≢_}
 use mathlib.Core.List.{List, [], _∷_, _++_}
-use Prim.Native.Nat.{ℕ, zero, suc, _+_, _-_, _≤_, _<_, max}
-use native.Mathlib.Nat.{zero-add}
+use Prim.Native.Nat.{ℕ, zero, suc, _+_, _-_, _≤_, _<_, _∣_, max}
+use native.Mathlib.Nat.{zero-add, add-zero, le-of-dvd, dvd-sub, pos-of-dvd-of-pos}
 use native.Mathlib.Omega.{arith}
 use lib.ListN.{length, getD, set, replicate, length-map, length-set, length-replicate}
 use lib.Seq.{ext-getD, getD-set-same, getD-set-other}
@@ -13,10 +13,10 @@ use borrow.Author.Tests.{eqb-true, eqb-false, eq-eqb, ne-eqb}
 use Rattle.abelian.specs.Lists.{one, upFrom, keep, largest}
 use Rattle.abelian.specs.Words.{longest}
 use Rattle.abelian.specs.FullPeriods.{distances}
-use Rattle.abelian.proofs.Tests.{decided}
+use Rattle.abelian.proofs.Tests.{is-false, decided}
 use Rattle.abelian.proofs.Lists.{length-upFrom, mem-upFrom, keep-agree}
 use Rattle.words.proofs.Vectors.{map-upFrom-at}
-use Rattle.full_periods.specs.Marks.{marks, isMarked, marked}
+use Rattle.full_periods.specs.Marks.{Steps, marks, isMarked, marked}
 use Rattle.words.proofs.Lists.{keep-rises}
 use Rattle.full_periods.proofs.Lists.{below-or-not, keep-more, keep-no-more, largest-more, lastOf, lastOf-more, distances-more}
 
@@ -119,29 +119,54 @@ pub marked-rises : (table : List ℕ) {k n : ℕ} → k ≤ n → length (marked
 unfolding marked
 marked-rises table h = keep-rises (isMarked table) 1 h
 
-module _ (table : List ℕ) (k : ℕ) (l : 1 ≤ k) where
-  pub marked-more : isMarked table k ≡ true → marked (k + 1 - 1) table ≡ marked (k - 1) table ++ (k ∷ [])
+-- where no number behind a is marked, up to a + m, the same are marked
+marked-pass : (table : List ℕ) (a m : ℕ) → ((k : ℕ) → a < k → k ≤ a + m → isMarked table k ≡ false) → marked (a + m) table ≡ marked a table
+unfolding marked
+marked-pass table a zero none = ap (λ (k : ℕ). marked k table) (add-zero a)
+marked-pass table a (suc m) none =
+    let e : a + suc m ≡ suc (a + m) = omega arith in
+    ap (λ (k : ℕ). marked k table) e
+    ∙ keep-no-more (isMarked table) 1 (a + m) (none (1 + (a + m)) (omega arith) (omega arith)) ∙ marked-pass table a m (λ k l h. none k l (omega arith))
+
+-- one step further, from a multiple of the step below n
+module _ (table : List ℕ) {step n p : ℕ} (steps : Steps step n table) (d : step ∣ p) (l : p < n) where
+  pub step-within : p + step ≤ n
+  step-within = let h : step ≤ n - p = le-of-dvd (omega arith) (dvd-sub step (steps .end) d) in omega arith
+
+  pub step-positive : 1 ≤ step
+  step-positive = pos-of-dvd-of-pos (steps .end) (omega arith)
+
+  -- between the two nothing is marked
+  marked-between : marked (p + step - 1) table ≡ marked p table
+  marked-between =
+      let e : p + step - 1 ≡ p + (step - 1) = omega (arith, step-positive) in
+      ap (λ (k : ℕ). marked k table) e
+      ∙ marked-pass table p (step - 1) (λ k a b. is-false (isMarked table k) (λ t.
+      let h : step ≤ k - p = le-of-dvd (omega arith) (dvd-sub step (steps .multiples k (omega (arith, step-within)) t) d) in
+      omega (arith, step-positive)))
+
+  pub marked-more : isMarked table (p + step) ≡ true → marked (p + step) table ≡ marked p table ++ ((p + step) ∷ [])
   unfolding marked
   marked-more e =
-      let s : k + 1 - 1 ≡ suc (k - 1) = omega arith in
-      let p : 1 + (k - 1) ≡ k = omega arith in
-      ap (λ (j : ℕ). keep (isMarked table) (upFrom 1 j)) s
-      ∙ keep-more (isMarked table) 1 (k - 1) (ap (isMarked table) p ∙ e)
-      ∙ ap (λ (j : ℕ). keep (isMarked table) (upFrom 1 (k - 1)) ++ (j ∷ [])) p
+      let s : p + step ≡ suc (p + step - 1) = omega (arith, step-positive) in
+      let q : 1 + (p + step - 1) ≡ p + step = omega (arith, step-positive) in
+      ap (λ (j : ℕ). marked j table) s
+      ∙ keep-more (isMarked table) 1 (p + step - 1) (ap (isMarked table) q ∙ e)
+      ∙ ap₂ (λ (xs : List ℕ) (j : ℕ). xs ++ (j ∷ [])) marked-between q
 
-  pub marked-no-more : isMarked table k ≡ false → marked (k + 1 - 1) table ≡ marked (k - 1) table
+  pub marked-no-more : isMarked table (p + step) ≡ false → marked (p + step) table ≡ marked p table
   unfolding marked
   marked-no-more e =
-      let s : k + 1 - 1 ≡ suc (k - 1) = omega arith in
-      let p : 1 + (k - 1) ≡ k = omega arith in
-      ap (λ (j : ℕ). keep (isMarked table) (upFrom 1 j)) s ∙ keep-no-more (isMarked table) 1 (k - 1) (ap (isMarked table) p ∙ e)
+      let s : p + step ≡ suc (p + step - 1) = omega (arith, step-positive) in
+      let q : 1 + (p + step - 1) ≡ p + step = omega (arith, step-positive) in
+      ap (λ (j : ℕ). marked j table) s ∙ keep-no-more (isMarked table) 1 (p + step - 1) (ap (isMarked table) q ∙ e) ∙ marked-between
 
   -- one marked number more is one distance more, from the last
-  pub gap-more : isMarked table k ≡ true → largest (distances 0 (marked (k + 1 - 1) table)) ≡ max (largest (distances 0 (marked (k - 1) table))) (k - lastOf 0 (marked (k - 1) table))
+  pub gap-more : isMarked table (p + step) ≡ true → largest (distances 0 (marked (p + step) table)) ≡ max (largest (distances 0 (marked p table))) (p + step - lastOf 0 (marked p table))
   gap-more e =
       ap (λ (xs : List ℕ). largest (distances 0 xs)) (marked-more e)
-      ∙ ap largest (distances-more 0 (marked (k - 1) table) k)
-      ∙ largest-more (distances 0 (marked (k - 1) table)) (k - lastOf 0 (marked (k - 1) table))
+      ∙ ap largest (distances-more 0 (marked p table) (p + step))
+      ∙ largest-more (distances 0 (marked p table)) (p + step - lastOf 0 (marked p table))
 
-  pub last-more : isMarked table k ≡ true → lastOf 0 (marked (k + 1 - 1) table) ≡ k
-  last-more e = ap (lastOf 0) (marked-more e) ∙ lastOf-more 0 (marked (k - 1) table) k
+  pub last-more : isMarked table (p + step) ≡ true → lastOf 0 (marked (p + step) table) ≡ p + step
+  last-more e = ap (lastOf 0) (marked-more e) ∙ lastOf-more 0 (marked p table) (p + step)

@@ -2,31 +2,45 @@
 use abelian::LETTERS;
 ghost use mathlib.Core.Path.{_≡_};
 ghost use mathlib.Core.List.{[], _∷_};
-ghost use Prim.Native.Nat.{_≤_, _<_};
-ghost use Rattle.abelian.specs.Words.{longest};
+ghost use Prim.Native.Nat.{ℕ, _+_, _≤_, _<_};
+ghost use lib.ListN.{getD, set};
+ghost use Rattle.abelian.specs.Words.{alphabetSize, longest};
 ghost use Rattle.full_periods.specs.Divisors.{GreatestDivisor, divided, isMultiple};
 
-// A count as a number of the word's positions.
-fn wide(count: u8) -> usize
+// A count as a number that may be taken as often as a word has letters.
+fn wide(count: u8) -> u16
     ensures { λ r. ⌜ (r ≡ count) × (r < 256) ⌝ }
 {
-    count as usize
+    count as u16
 }
 
 // Whether each count is so many times that of the unit. Every letter is looked at, so that the loop has no exit inside a vector.
-pub(crate) fn is_multiple(counts: [u8; LETTERS], times: usize, unit: [u8; LETTERS]) -> bool
+pub(crate) fn is_multiple(counts: [u8; LETTERS], times: u16, unit: [u8; LETTERS]) -> bool
     requires { ⌜ times ≤ longest ⌝ }
     ensures { λ r. ⌜ r ≡ isMultiple counts times unit ⌝ }
 {
-    let mut differing: u8 = 0;
+    let mut differing = false;
     let mut j = 0;
     while j < LETTERS {
-        if wide(counts[j]) != times * wide(unit[j]) {
-            differing += 1;
-        }
+        differing = differing | (wide(counts[j]) != times * wide(unit[j]));
         j += 1;
     }
-    differing == 0
+    !differing
+}
+
+// The counts with one more at a place. Every letter is looked at, so that the counts need not lie in memory.
+pub(crate) fn count_more(counts: [u8; LETTERS], place: u8) -> [u8; LETTERS]
+    requires { ⌜ place < alphabetSize ⌝ }
+    requires { ⌜ ((j : ℕ) → j < alphabetSize → getD counts j 0 < longest) ⌝ }
+    ensures { λ r. ⌜ r ≡ set counts place (getD counts place 0 + 1) ⌝ }
+{
+    let mut more = counts;
+    let mut j = 0;
+    while j < LETTERS {
+        more[j] = counts[j] + (place == j as u8) as u8;
+        j += 1;
+    }
+    more
 }
 
 // The greatest common divisor of two numbers, by Euclid's algorithm.

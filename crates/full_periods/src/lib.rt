@@ -28,11 +28,11 @@ pub fn list_full(word: &[u8], out: &mut [u32]) -> Wrote
         return Wrote::Refused(refusal);
     }
     let marks = plain::mark_full(word);
-    let needed = marks::count_marked(&marks, word.len());
+    let needed = marks::count_marked(&marks, word.len(), 1);
     if out.len() < needed {
         return Wrote::Refused(Refusal::SliceTooShort(needed));
     }
-    marks::write_marked(&marks, word.len(), out);
+    marks::write_marked(&marks, word.len(), 1, out);
     Wrote::Words(needed)
 }
 
@@ -45,11 +45,11 @@ pub fn list_full_scaled(word: &[u8], out: &mut [u32]) -> Scaled
     }
     let path = scaled::find_path(word);
     let marks = path.marks;
-    let words = marks::count_marked(&marks, word.len());
+    let words = marks::count_marked(&marks, word.len(), path.s);
     if words > out.len() {
         return Scaled::Refused(Refusal::SliceTooShort(words));
     }
-    marks::write_marked(&marks, word.len(), out);
+    marks::write_marked(&marks, word.len(), path.s, out);
     let s = path.s;
     let t = path.t;
     Scaled::Written { words, s, t }
@@ -63,7 +63,7 @@ pub fn count_full(word: &[u8]) -> usize
 {
     let path = scaled::find_path(word);
     let marks = path.marks;
-    marks::count_marked(&marks, word.len())
+    marks::count_marked(&marks, word.len(), path.s)
 }
 
 // Writes the full periods of a word that may be taken into a slice with places enough. For the crates above.
@@ -75,5 +75,5 @@ pub fn write_full(word: &[u8], out: &mut [u32])
 {
     let path = scaled::find_path(word);
     let marks = path.marks;
-    marks::write_marked(&marks, word.len(), out);
+    marks::write_marked(&marks, word.len(), path.s, out);
 }

@@ -21,7 +21,8 @@ pub struct ScaledPath {
     pub marks: [u8; ROWS],
 }
 
-// The table of the scaled positions. Each letter is read once, and the running counts are compared only at the multiples of s.
+// The table of the scaled positions. Each letter is read once, and the running counts are compared only at the multiples of s. The
+// last s letters are not read, since of the last s positions the word's end is scaled and no other.
 fn mark_scaled(word: &[u8], s: usize, unit: [u8; LETTERS]) -> [u8; ROWS]
     requires { ⌜ T (ofLetters (now word)) ⌝ }
     requires { ⌜ length (now word) ≤ longest ⌝ }
@@ -33,12 +34,13 @@ fn mark_scaled(word: &[u8], s: usize, unit: [u8; LETTERS]) -> [u8; ROWS]
     let mut marks = [0u8; ROWS];
     marks[0] = 1;
     let mut counts = [0u8; LETTERS];
-    let mut times = 1;
+    let mut times: u16 = 1;
     let mut next = s;
+    let last = word.len() - s;
     let mut i = 0;
-    while i < word.len() {
-        let place = (word[i] - FIRST_LETTER) as usize;
-        counts[place] += 1;
+    while i < last {
+        let more = crate::counts::count_more(counts, word[i] - FIRST_LETTER);
+        counts = more;
         i += 1;
         if i == next {
             if crate::counts::is_multiple(counts, times, unit) {
@@ -48,10 +50,12 @@ fn mark_scaled(word: &[u8], s: usize, unit: [u8; LETTERS]) -> [u8; ROWS]
             next += s;
         }
     }
+    marks[word.len()] = 1;
     marks
 }
 
-// The table of the full periods: of the multiples of s from s times T on those that divide n and whose multiples are all scaled.
+// The table of the full periods: of the multiples of s from s times T on those that divide n and whose multiples are all scaled. The
+// whole word is a full period, and no other number above n / 2 divides n.
 fn mark_full(word: &[u8], s: usize, t: usize, positions: &[u8; ROWS]) -> [u8; ROWS]
     requires { ⌜ T (ofLetters (now word)) ⌝ }
     requires { ⌜ length (now word) ≤ longest ⌝ }
@@ -64,12 +68,13 @@ fn mark_full(word: &[u8], s: usize, t: usize, positions: &[u8; ROWS]) -> [u8; RO
     let n = word.len();
     let mut marks = [0u8; ROWS];
     let mut p = s * t;
-    while p <= n {
+    while p + p <= n {
         if n % p == 0 && crate::marks::marks_multiples(positions, n, Period(p)) {
             marks[p] = 1;
         }
         p += s;
     }
+    marks[n] = 1;
     marks
 }
 
@@ -91,7 +96,7 @@ pub(crate) fn find_path(word: &[u8]) -> ScaledPath
     let s = word.len() / (g as usize);
     let unit = crate::counts::divide(counts, g);
     let positions = mark_scaled(word, s, unit);
-    let t = crate::marks::greatest_distance(&positions, word.len()) / s;
+    let t = crate::marks::greatest_distance(&positions, word.len(), s) / s;
     let marks = mark_full(word, s, t, &positions);
     ScaledPath { s, t, marks }
 }

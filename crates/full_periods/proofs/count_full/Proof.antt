@@ -3,7 +3,7 @@ use mathlib.Core.Path.{ap, _∙_}
 use lib.ListN.{length}
 use borrow.Author.Needs.{needs}
 use Rattle.full_periods.specs.declared.scaled.ScaledPath.{ScaledPath}
-use Rattle.full_periods.proofs.Listing.{marked-full}
+use Rattle.full_periods.proofs.Listing.{path-steps, marked-full}
 use Rattle.full_periods.proofs.count_full.Statement.{statement}
 use Rattle.full_periods.proofs.count_full.Tie as tie
 
@@ -11,7 +11,10 @@ find-path-requires : tie.Need-find-path-requires
 find-path-requires c κs = search needs
 
 count-marked-requires : tie.Need-count-marked-requires
-count-marked-requires c κs = search needs
+count-marked-requires c κs =
+    let start = c .before .before .before .before in
+    let path = c .before .before .find-path in
+    (start .pre .1, path-steps (start .args .word .now) (path .result) (start .pre .0) (start .pre .1) (path .ensures))
 
 returns : tie.Need-returns
 returns c =

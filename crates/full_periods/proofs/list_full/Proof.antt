@@ -15,7 +15,7 @@ use Rattle.abelian.specs.Answers.{writing}
 use Rattle.abelian.specs.Calls.{fullWords, fullListing}
 use Rattle.words.proofs.Refusals.{accepted-none, refused-some, accepted-length, accepted-letters}
 use Rattle.words.proofs.Listings.{listing-refused, listing-short, listing-written}
-use Rattle.full_periods.proofs.Listing.{marked-words, marked-count}
+use Rattle.full_periods.proofs.Listing.{steps-of-one, marked-words, marked-count}
 use Rattle.full_periods.proofs.list_full.Statement.{statement}
 use Rattle.full_periods.proofs.list_full.Tie as tie
 
@@ -65,7 +65,7 @@ mark-full-requires : tie.Need-mark-full-requires
 mark-full-requires c κs = (accepted-letters (word c) (accepted c), short c)
 
 count-marked-requires : tie.Need-count-marked-requires
-count-marked-requires c κs = short (c .before .before)
+count-marked-requires c κs = (short (c .before .before), steps-of-one _ _)
 
 returns-2 : tie.Need-returns-2
 unfolding fullListing
@@ -77,7 +77,7 @@ returns-2 c =
 write-marked-requires : tie.Need-write-marked-requires
 write-marked-requires c κs =
     let counted = c .before .before .before in
-    (short (counted .before .before .before), omega (arith, counted .count-marked .ensures, c .before .before .if1 .left))
+    (short (counted .before .before .before), (steps-of-one _ _, omega (arith, counted .count-marked .ensures, c .before .before .if1 .left)))
 
 same-length : tie.Need-same-length
 same-length c = search needs
@@ -88,7 +88,7 @@ returns-3 c =
     let counted = c .before .before .before .before .before .before in
     let told = counted .before .before .before in
     let w = word told in
-    let wrote : c .before .before .write-marked .last .1 .1 .0 ≡ fill (fullWords w) (out told) =
+    let wrote : c .before .before .write-marked .last .1 .1 .1 .0 ≡ fill (fullWords w) (out told) =
     c .before .before .write-marked .ensures ∙ ap (λ (ws : List ℕ). fill ws (out told)) (marked-words w (counted .before .before .mark-full .result) (short told) (counted .before .before .mark-full .ensures)) in
     ap₂ (λ (k : ℕ) (l : List ℕ). writing k 0 0 0 l) (needed counted) wrote
     ∙ sym (listing-written w (out told) (fullWords w) 0 0 0 (accepted told) (omega (arith, needed counted, c .before .before .before .before .before .if1 .left)))

@@ -16,9 +16,9 @@ use Rattle.abelian.specs.Calls.{fullWords, scaledListing}
 use Rattle.words.proofs.Refusals.{accepted-none, refused-some, accepted-length, accepted-letters}
 use Rattle.abelian.specs.FullPeriods.{scale, scaledGap}
 use Rattle.full_periods.specs.declared.scaled.ScaledPath.{ScaledPath}
-use Rattle.full_periods.specs.Marks.{fullMarks}
+use Rattle.full_periods.specs.Marks.{Steps, fullMarks}
 use Rattle.words.proofs.Listings.{listing-refused, listing-short, listing-written}
-use Rattle.full_periods.proofs.Listing.{marked-words, marked-count}
+use Rattle.full_periods.proofs.Listing.{path-steps, marked-words, marked-count}
 use Rattle.full_periods.proofs.list_full_scaled.Statement.{statement}
 use Rattle.full_periods.proofs.list_full_scaled.Tie as tie
 
@@ -38,6 +38,10 @@ module _ (c : tie.After-enum-told) where
 
   short : length word ≤ longest
   short = accepted-length word accepted
+
+-- the path goes by steps of s
+steps : (c : tie.After-find-path) → Steps (c .find-path .result .s) (length (word (c .before))) (c .find-path .result .marks)
+steps c = path-steps (word (c .before)) (c .find-path .result) (accepted-letters (word (c .before)) (accepted (c .before))) (short (c .before)) (c .find-path .ensures)
 
 -- the path's parts, once the table is counted
 module _ (c : tie.After-count-marked) where
@@ -77,7 +81,7 @@ find-path-requires : tie.Need-find-path-requires
 find-path-requires c κs = (accepted-letters (word c) (accepted c), short c)
 
 count-marked-requires : tie.Need-count-marked-requires
-count-marked-requires c κs = short (c .before .before .before)
+count-marked-requires c κs = (short (c .before .before .before), steps (c .before .before))
 
 returns-2 : tie.Need-returns-2
 unfolding scaledListing
@@ -89,7 +93,7 @@ returns-2 c =
 write-marked-requires : tie.Need-write-marked-requires
 write-marked-requires c κs =
     let counted = c .before .before .before in
-    (short (told counted), omega (arith, counted .count-marked .ensures, c .before .before .if1 .left))
+    (short (told counted), (steps (counted .before .before .before), omega (arith, counted .count-marked .ensures, c .before .before .if1 .left)))
 
 same-length : tie.Need-same-length
 same-length c = search needs
@@ -100,7 +104,7 @@ returns-3 c =
     let counted = c .before .before .before .before .before .before in
     let w = word (told counted) in
     let o = out (told counted) in
-    let wrote : c .before .before .write-marked .last .1 .1 .0 ≡ fill (fullWords w) o =
+    let wrote : c .before .before .write-marked .last .1 .1 .1 .0 ≡ fill (fullWords w) o =
     c .before .before .write-marked .ensures ∙ ap (λ (ws : List ℕ). fill ws o) (marked-words w (path counted .marks) (short (told counted)) (table-is counted)) in
     let found = counted .before .before .before .find-path .ensures in
     ap₂ (λ (k : ℕ) (l : List ℕ). writing k 0 (path counted .s) (path counted .t) l) (needed counted) wrote

@@ -7,7 +7,7 @@ use lib.ListN.{length}
 use borrow.Author.Needs.{needs}
 use Rattle.abelian.specs.Output.{fill}
 use Rattle.full_periods.specs.declared.scaled.ScaledPath.{ScaledPath}
-use Rattle.full_periods.proofs.Listing.{marked-full, marked-words}
+use Rattle.full_periods.proofs.Listing.{path-steps, marked-full, marked-words}
 use Rattle.full_periods.proofs.write_full.Statement.{statement}
 use Rattle.full_periods.proofs.write_full.Tie as tie
 
@@ -19,7 +19,7 @@ write-marked-requires c κs =
     let start = c .before .before .before .before .before .before in
     let path = c .before .before .before .find-path in
     let e = marked-full (start .args .word .now) (path .result .marks) (start .pre .1 .0) (ap (λ (x : ScaledPath). x .marks) (path .ensures)) in
-    (start .pre .1 .0, omega (arith, ap length e, start .pre .1 .1))
+    (start .pre .1 .0, (path-steps (start .args .word .now) (path .result) (start .pre .0) (start .pre .1 .0) (path .ensures), omega (arith, ap length e, start .pre .1 .1)))
 
 same-length : tie.Need-same-length
 same-length c = search needs

@@ -18,7 +18,7 @@ use Rattle.full_periods.specs.Divisors.{GreatestDivisor, divided, unitCo
 use Rattle.full_periods.proofs.Tables.{marking-start, marking-end}
 use Rattle.full_periods.proofs.Blocks.{full-positive, full-within}
 use Rattle.full_periods.proofs.Lemma3.{empty-divisor, greatest-countDivisor, divisor-times-scale, scale-positive}
-use Rattle.full_periods.proofs.Positions.{gap-marked, empty-scale, empty-gap}
+use Rattle.full_periods.proofs.Positions.{scaled-steps, gap-marked, empty-scale, empty-gap}
 use Rattle.full_periods.proofs.scaled.find_path.Statement.{statement}
 use Rattle.full_periods.proofs.scaled.find_path.Tie as tie
 
@@ -106,7 +106,9 @@ mark-scaled-requires c κs =
     )
 
 greatest-distance-requires : tie.Need-greatest-distance-requires
-greatest-distance-requires c κs = search needs
+greatest-distance-requires c κs =
+    let chosen = c .before .before .before in
+    (start chosen .pre .1, scaled-steps (word chosen) (start chosen .pre .0) (some chosen) (start chosen .pre .1) (scale-is chosen) (c .before .mark-scaled .ensures))
 
 div-t : tie.Need-div-t
 div-t c =

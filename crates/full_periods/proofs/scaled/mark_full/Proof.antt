@@ -12,11 +12,11 @@ use lib.Dec.{T}
 use borrow.Author.Needs.{needs}
 use Rattle.abelian.specs.Words.{longest, ofLetters}
 use Rattle.abelian.specs.FullPeriods.{scale, scaledGap}
-use Rattle.abelian.proofs.Tests.{is-false}
+use Rattle.abelian.proofs.Tests.{is-true, is-false}
 use Rattle.full_periods.specs.Marks.{marksMultiples, isFull, fullMarks}
 use Rattle.full_periods.proofs.Tables.{Marking, marking-start, marking-mark, marking-pass, marking-end}
-use Rattle.full_periods.proofs.Blocks.{above-not-full, indivisible-not-full}
-use Rattle.full_periods.proofs.Lemma3.{scale-positive, scale-divides, observation-1}
+use Rattle.full_periods.proofs.Blocks.{above-not-full, indivisible-not-full, half-not-full, whole-full}
+use Rattle.full_periods.proofs.Lemma3.{scale-positive, observation-1}
 use Rattle.full_periods.proofs.Positions.{gap-positive, gap-within, observation-4, multiples-full}
 use Rattle.full_periods.proofs.scaled.mark_full.Statement.{statement}
 use Rattle.full_periods.proofs.scaled.mark_full.Tie as tie
@@ -32,7 +32,7 @@ record Given (w : List ℕ) (s t : ℕ) : Type 0 where
 record Marked (w : List ℕ) (s n : ℕ) (marks : List ℕ) (p : ℕ) : Type 0 where
   size : n ≡ length w
   step : 1 ≤ s
-  small : s ≤ n
+  within : p ≤ n
   from : 1 ≤ p
   multiple : s ∣ p
   table : Marking (isFull w) marks p
@@ -62,7 +62,7 @@ module _ {w : List ℕ} {s t : ℕ} (g : Given w s t) where
   marked-start table m = record {
     size = refl;
     step = step-positive;
-    small = le-of-dvd (g .some) (subst (λ (k : ℕ). k ∣ length w) (sym (g .scaleIs)) (scale-divides w (g .inside)));
+    within = first-within;
     from = mul-pos step-positive (omega (arith, g .gapIs, gap-positive w (g .inside) (g .some)));
     multiple = dvd-mul-right s t;
     table = marking-pass (isFull w) table 0 m (s * t) (omega arith) (λ k a b. none-below k b);
@@ -76,13 +76,13 @@ module _ {w : List ℕ} {s t : ℕ} (g : Given w s t) where
       let m : s ≤ k - p = le-of-dvd (omega arith) (dvd-sub s e d) in
       omega arith)
 
-  module _ {n : ℕ} {marks : List ℕ} {p : ℕ} (h : Marked w s n marks p) (l : p ≤ n) where
+  module _ {n : ℕ} {marks : List ℕ} {p : ℕ} (h : Marked w s n marks p) (l : p + p ≤ n) where
     -- the next multiple of s, once p is marked or not
     marked-next : {table : List ℕ} → Marking (isFull w) table (p + 1) → Marked w s n table (p + s)
     marked-next {table} m = record {
       size = h .size;
       step = h .step;
-      small = h .small;
+      within = let m : s ≤ p = le-of-dvd (h .from) (h .multiple) in omega arith;
       from = omega (arith, h .from);
       multiple = dvd-add s (h .multiple) (dvd-refl s);
       table = marking-pass (isFull w) table (p + 1) m (p + s) (omega (arith, h .step)) (λ k a b. none-between p (h .multiple) k (omega arith) b);
@@ -95,6 +95,16 @@ module _ {w : List ℕ} {s t : ℕ} (g : Given w s t) where
     -- p is none
     marked-same : isFull w p ≡ false → Marked w s n marks (p + s)
     marked-same e = marked-next (marking-pass (isFull w) marks p (h .table) (p + 1) (omega arith) (λ k a b. let q : k ≡ p = omega arith in ap (isFull w) q ∙ e))
+
+  -- behind the last p that is tried the whole word alone is full
+  marked-end : {n : ℕ} {marks : List ℕ} {p : ℕ} → Marked w s n marks p → n < p + p → set marks n 1 ≡ fullMarks w
+  unfolding fullMarks
+  marked-end {n} {marks} {p} h l =
+      marking-end (isFull w) (set marks n 1) (n + 1)
+      (marking-mark (isFull w) marks n
+      (marking-pass (isFull w) marks p (h .table) n (h .within) (λ k a b. half-not-full w k (omega (arith, h .size)) (omega (arith, h .size))))
+      (omega (arith, g .short, h .size)) (ap (isFull w) (h .size) ∙ is-true (isFull w (length w)) (whole-full w (g .inside) (g .some))))
+      (λ k a. above-not-full w k (omega (arith, h .size)))
 
 given : (c : tie.Start Inv-loop μ-loop) → Given (c .args .word .now) (c .args .s) (c .args .t)
 given c = record { inside = c .pre .0; short = c .pre .1 .0; some = c .pre .1 .1 .0; scaleIs = c .pre .1 .1 .1 .0; gapIs = c .pre .1 .1 .1 .1 .0 }
@@ -109,6 +119,10 @@ loop-holds c =
     let start = c .before in
     marked-start (given start) _ (marking-start (isFull (start .args .word .now)))
 
+add-loop : tie.Need-add-loop Inv-loop μ-loop
+unfolding longest
+add-loop c = omega (arith, c .loop .inv .within, c .before .before .pre .1 .0)
+
 rem-if1 : tie.Need-rem-if1 Inv-loop μ-loop
 rem-if1 c = search needs
 
@@ -121,7 +135,10 @@ array-write-marks c = omega (arith, c .before .before .before .loop-test .taken,
 
 add-p : tie.Need-add-p Inv-loop μ-loop
 unfolding longest
-add-p c = omega (arith, c .before .loop-test .taken, c .before .before .before .before .pre .1 .0, c .before .before .loop .inv .small)
+add-p c =
+    let at-loop = c .before .before in
+    let m = le-of-dvd (at-loop .loop .inv .from) (at-loop .loop .inv .multiple) in
+    omega (arith, m, c .before .loop-test .taken, at-loop .before .before .pre .1 .0)
 
 loop-less : tie.Need-loop-less Inv-loop μ-loop
 loop-less c = search needs
@@ -134,7 +151,7 @@ loop-again c =
     let w = start .args .word .now in
     let p = at-loop .loop .p in
     let g : Given w (start .args .s) (start .args .t) = given start in
-    let l : p ≤ length w = omega (arith, in-loop .loop-test .taken) in
+    let l : p + p ≤ length w = in-loop .loop-test .taken in
     let tried : length w % p ≡ 0 → isFull w p ≡ marksMultiples (start .args .positions .now) (length w) p = λ e.
     sym (multiples-full w (g .inside) (g .some) (g .short) p (at-loop .loop .inv .from) (dvd-of-mod-eq-zero p e))
     ∙ ap (λ (table : List ℕ). marksMultiples table (length w) p) (sym (start .pre .1 .1 .1 .1 .1)) in
@@ -144,12 +161,12 @@ loop-again c =
     (⊎-elim (λ v. tried (v .0 .taken) ∙ sym (v .1 .ensures) ∙ v .2 .left) (λ v. indivisible-not-full w p (v .left)) (x .0 .came))))
     (c .if1 .came)
 
+array-write-marks-2 : tie.Need-array-write-marks-2 Inv-loop μ-loop
+unfolding longest
+array-write-marks-2 c = omega (arith, c .before .before .before .pre .1 .0)
+
 returns : tie.Need-returns Inv-loop μ-loop
-unfolding fullMarks
-returns c =
-    let at-loop = c .before in
-    let word = at-loop .before .before .args .word .now in
-    marking-end (isFull word) (at-loop .loop .marks) (at-loop .loop .p) (at-loop .loop .inv .table) (λ k h. above-not-full word k (omega arith))
+returns c = marked-end (given (c .before .before .before)) (c .before .loop .inv) (c .loop-test .left)
 
 pub mark-full-spec : {M : Type 1} → statement M
 mark-full-spec =
@@ -159,10 +176,12 @@ mark-full-spec =
     μ-loop
     mul-p
     loop-holds
+    add-loop
     rem-if1
     marks-multiples-requires
     array-write-marks
     add-p
     loop-less
     loop-again
+    array-write-marks-2
     returns)
