@@ -3,7 +3,6 @@ use crate::text::say;
 use crate::text::say_named;
 use crate::text::say_number;
 use crate::text::say_words;
-use crate::text::unwritten;
 use abelian::Covered;
 use abelian::Listed;
 use abelian::Outcome;
@@ -49,28 +48,11 @@ pub(crate) fn say_scale(scaled: Scaled) -> Wrote {
     }
 }
 
-// Prints how many places of a slice are as they were, from the given one on.
-fn say_kept(out: &[u32], from: usize) {
-    say_named(b" kept", unwritten(out, from));
-}
-
-// Prints an accepted list.
-fn say_list(raw: bool, out: &[u32], words: usize) {
-    say_words(raw, out, words);
-    say_kept(out, words);
-}
-
-// Prints the refusal of a list.
-fn say_refused_list(refusal: Refusal, out: &[u32]) {
-    say_refusal(refusal);
-    say_kept(out, 0);
-}
-
-// Prints what a list call answered, with the slice afterwards: the output words or the refusal, and how many places are as they were.
+// Prints what a list call answered: the output words, raw or by their kinds, or the refusal.
 pub(crate) fn say_wrote(raw: bool, wrote: Wrote, out: &[u32]) {
     match wrote {
-        Wrote::Words(words) => say_list(raw, out, words),
-        Wrote::Refused(refusal) => say_refused_list(refusal, out),
+        Wrote::Words(words) => say_words(raw, out, words),
+        Wrote::Refused(refusal) => say_refusal(refusal),
     }
 }
 

@@ -5,6 +5,7 @@ use crate::answers::say_trials;
 use crate::answers::say_verdict;
 use crate::answers::say_wrote;
 use crate::text::UNWRITTEN;
+use crate::text::say_kept;
 use crate::tracked::replayed;
 use crate::tracked::tracked;
 use abelian::Head;
@@ -56,7 +57,7 @@ fn list(call: u8, body: &[u8], out: &mut [u32]) -> Wrote {
     }
 }
 
-// Makes a list call with a slice of so many places, all unwritten, and prints what it answered.
+// Makes a list call with a slice of so many places, all unwritten, and prints what it answered and how many places are as they were.
 fn run_list(call: u8, places: usize, body: &[u8])
     requires { ⌜ places ≤ 99 ⌝ }
 {
@@ -64,11 +65,7 @@ fn run_list(call: u8, places: usize, body: &[u8])
     let out = &mut all[..places];
     let wrote = list(call, body, out);
     say_wrote(call == b't', wrote, out);
-}
-
-// Makes the search for a cover, and prints what it answered.
-fn run_cover(word: &[u8]) {
-    say_covered(find_cover(word));
+    say_kept(out);
 }
 
 // Makes the judge's call, and prints what it answered.
@@ -81,7 +78,7 @@ fn run_judge(head: Head, period: Period, word: &[u8]) {
 pub(crate) fn run_call(call: u8, first: u8, second: u8, body: &[u8]) {
     match call {
         b'e' => run_judge(Head(quantity(first)), Period(quantity(second)), body),
-        b'r' => run_cover(body),
+        b'r' => say_covered(find_cover(body)),
         _ => run_list(call, 10 * digit(first) + digit(second), body),
     }
 }

@@ -69,10 +69,10 @@ pub(crate) fn say_words(raw: bool, out: &[u32], n: usize) {
     }
 }
 
-// How many places of a slice are unwritten, from the given one on.
-pub(crate) fn unwritten(out: &[u32], from: usize) -> usize {
+// How many places of a slice are unwritten.
+fn unwritten(out: &[u32]) -> usize {
     let mut kept = 0;
-    let mut i = from;
+    let mut i = 0;
     while i < out.len() {
         if out[i] == UNWRITTEN {
             kept += 1;
@@ -80,4 +80,9 @@ pub(crate) fn unwritten(out: &[u32], from: usize) -> usize {
         i += 1;
     }
     kept
+}
+
+// Prints how many places of a slice are as they were before a call.
+pub(crate) fn say_kept(out: &[u32]) {
+    say_named(b" kept", unwritten(out));
 }

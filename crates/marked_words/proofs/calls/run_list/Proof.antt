@@ -18,6 +18,9 @@ list-requires c κs = search needs
 say-wrote-requires : tie.Need-say-wrote-requires
 say-wrote-requires c κs = search needs
 
+say-kept-requires : tie.Need-say-kept-requires
+say-kept-requires c κs = search needs
+
 returns : tie.Need-returns
 returns c = search needs
 
@@ -29,4 +32,5 @@ run-list-spec =
     slice-aggregate-out
     list-requires
     say-wrote-requires
+    say-kept-requires
     returns)

@@ -1,4 +1,4 @@
--- `marked_words::text::say_words` meets its contract: prints one place after the other. Assumes nothing.
+-- `marked_words::text::say_words` meets its contract: it goes through the first n places. Assumes nothing.
 use Prim.Native.Nat.{_≤_, _-_}
 use borrow.Author.Needs.{needs}
 use Rattle.marked_words.proofs.text.say_words.Statement.{statement}

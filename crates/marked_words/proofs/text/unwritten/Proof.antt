@@ -8,10 +8,10 @@ use Rattle.marked_words.proofs.text.unwritten.Statement.{statement}
 use Rattle.marked_words.proofs.text.unwritten.Tie as tie
 
 abbrev Inv-loop : tie.InvT-loop
-Inv-loop out from kept₀ i₀ kept i = kept ≤ i
+Inv-loop out kept₀ i₀ kept i = kept ≤ i
 
 abbrev μ-loop : tie.MeasureT-loop
-μ-loop out from kept₀ i₀ kept i = length out - i
+μ-loop out kept₀ i₀ kept i = length out - i
 
 loop-holds : tie.Need-loop-holds Inv-loop μ-loop
 loop-holds c = search needs
