@@ -24,8 +24,12 @@ pub record Replay : Type 0 where
   pub refused : ℕ
   pub answer : Answer
 
+-- the replay that leaves the tracker, with so many calls refused and the answer of its list
+abbrev pub asReplay : Tracker → ℕ → Answer → Replay
+asReplay t k a = record { tracker = t; refused = k; answer = a }
+
 -- all of it by the machine: the tracker of its word, its refusals, and its answer to the list
 unfoldable pub replaying : List ℕ → List ℕ → Replay
 replaying bytes out =
     let calls : List Call = map callOf bytes in
-    record { tracker = trackerHolding (wordOf calls); refused = refusals (machineAnswers [] calls); answer = machine (wordOf calls) (Call.list out) .answer }
+    asReplay (trackerHolding (wordOf calls)) (refusals (machineAnswers [] calls)) (machine (wordOf calls) (Call.list out) .answer)

@@ -5,16 +5,17 @@ use lib.Dec.{eqb}
 use Rattle.abelian.specs.Lists.{pick}
 use Rattle.abelian.specs.Answers.{answeredOutcome, answeredWrote}
 use Rattle.abelian.specs.Trackers.{Step}
+use Rattle.tracker.specs.Fields.{asStep}
 use Rattle.tracker.specs.declared.Stepped.{Stepped}
 use Rattle.tracker.specs.declared.Listing.{Listing}
 
 -- the step of an add, a take-back or a clear
 abbrev pub stepOf : Stepped → Step
-stepOf s = record { tracker = s .tracker; answer = answeredOutcome (s .outcome) }
+stepOf s = asStep (s .tracker) (answeredOutcome (s .outcome))
 
 -- the step of a list, with the slice as it is afterwards
 abbrev pub listingOf : Listing → List ℕ → Step
-listingOf s out = record { tracker = s .tracker; answer = answeredWrote (s .wrote) out }
+listingOf s out = asStep (s .tracker) (answeredWrote (s .wrote) out)
 
 -- the entry of a pair after the letter that made the length has gone: 0 where the pair ended at that length, and else as it was
 abbrev pub entryReopened : ℕ → ℕ → ℕ

@@ -1,8 +1,8 @@
-// The letters that a tracker holds: whether they are letters at all, one more of them, and one less.
+// The letters that a tracker holds: whether they are letters at all, one more of them, and one less. Each function works on the fields that the
+// caller lends.
 use abelian::BOARD;
 use abelian::LONGEST;
 use abelian::Outcome;
-use abelian::Tracker;
 use board::ending::end_pairs;
 use words::check_word;
 use words::prefix_counts;
@@ -14,6 +14,7 @@ ghost use lib.Dec.{T};
 ghost use lib.ListN.{length};
 ghost use Rattle.abelian.specs.Words.{alphabetSize, longest, isLetter};
 ghost use Rattle.abelian.specs.Trackers.{boardSize, damagedBytes, damaged, added, shortened};
+ghost use Rattle.tracker.specs.Fields.{ofFields};
 ghost use Rattle.tracker.specs.Steps.{entryReopened};
 
 // Whether a tracker of this length and these bytes is damaged: the length is above the longest, or a byte within it is no letter. The bytes
@@ -31,26 +32,34 @@ pub(crate) fn is_damaged(len: usize, bytes: &[u8; LONGEST]) -> bool
     }
 }
 
-// The tracker with the letter behind those that it holds, and the pairs ended that are then in range and no Abelian period.
-pub(crate) fn with_letter(tracker: Tracker, letter: u8) -> Tracker
-    requires { ⌜ damaged tracker ≡ false ⌝ }
-    requires { ⌜ tracker .len < longest ⌝ }
+// Says that arrays by value have as many elements as their types say: of arrays behind references the checker does not know it. Nothing is left
+// of the call in the compiled code, nor of the copies that it is given.
+fn whole(bytes: [u8; LONGEST], board: [u8; BOARD])
+    ensures { λ _. ⌜ (length bytes ≡ longest) × (length board ≡ boardSize) ⌝ }
+{}
+
+// Stores the letter behind those that the tracker holds, and ends the pairs that are then in range and no Abelian period.
+pub(crate) fn store_letter(
+    len: &mut usize,
+    bytes: &mut [u8; LONGEST],
+    board: &mut [u8; BOARD],
+    letter: u8,
+)
+    requires { ⌜ damaged (ofFields (now len) (now bytes) (now board)) ≡ false ⌝ }
+    requires { ⌜ now len < longest ⌝ }
     requires { ⌜ T (isLetter alphabetSize letter) ⌝ }
-    ensures { λ r. ⌜ r ≡ added tracker letter ⌝ }
+    ensures { λ _. ⌜ ofFields (now (len .exit)) (now (bytes .exit)) (now (board .exit))
+        ≡ added (ofFields (now (len .entry)) (now (bytes .entry)) (now (board .entry))) letter ⌝ }
 {
-    let len = tracker.len;
-    let longer = len + 1;
-    let mut bytes = tracker.bytes;
-    bytes[len] = letter;
-    let mut board = tracker.board;
-    let word = &bytes[..longer];
+    whole(*bytes, *board);
+    let at = *len;
+    let longer = at + 1;
+    bytes[at] = letter;
+    let all = &bytes[..];
+    let word = &all[..longer];
     let counts = prefix_counts(word);
-    end_pairs(word, &counts, &mut board);
-    Tracker {
-        len: longer,
-        bytes,
-        board,
-    }
+    end_pairs(word, &counts, board);
+    *len = longer;
 }
 
 // A pair's entry after the letter that made the length has gone: 0 where the pair ended at that length, and else as it was.
@@ -72,21 +81,17 @@ fn reopen(board: &mut [u8; BOARD], len: u8)
     }
 }
 
-// The tracker without its last letter, and the pairs open again that ended with it.
-pub(crate) fn without_last(tracker: Tracker) -> Tracker
-    requires { ⌜ tracker .len ≤ longest ⌝ }
-    requires { ⌜ 1 ≤ tracker .len ⌝ }
-    ensures { λ r. ⌜ r ≡ shortened tracker ⌝ }
+// Takes the last letter off, and opens the pairs again that ended with it.
+pub(crate) fn remove_last(len: &mut usize, bytes: &mut [u8; LONGEST], board: &mut [u8; BOARD])
+    requires { ⌜ now len ≤ longest ⌝ }
+    requires { ⌜ 1 ≤ now len ⌝ }
+    ensures { λ _. ⌜ ofFields (now (len .exit)) (now (bytes .exit)) (now (board .exit))
+        ≡ shortened (ofFields (now (len .entry)) (now (bytes .entry)) (now (board .entry))) ⌝ }
 {
-    let len = tracker.len;
-    let last = len - 1;
-    let mut bytes = tracker.bytes;
+    whole(*bytes, *board);
+    let ended = *len;
+    let last = ended - 1;
     bytes[last] = 0;
-    let mut board = tracker.board;
-    reopen(&mut board, len as u8);
-    Tracker {
-        len: last,
-        bytes,
-        board,
-    }
+    reopen(board, ended as u8);
+    *len = last;
 }

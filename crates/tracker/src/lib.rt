@@ -1,19 +1,14 @@
-// The tracker's five calls. Each takes the tracker by value and returns it as the call leaves it, beside the answer: a refused call returns
-// it as it came. The contracts hold of every tracker, also of one that no calls have made.
+// The tracker's five calls by value. Each takes the tracker and returns it as the call leaves it, beside the answer: a refused call returns
+// it as it came. They take the tracker apart, make the call in place on its fields, and build it again. The contracts hold of every tracker,
+// also of one that no calls have made.
+pub mod in_place;
 mod letters;
 
 use abelian::BOARD;
 use abelian::LONGEST;
 use abelian::Outcome;
-use abelian::Refusal;
 use abelian::Tracker;
 use abelian::Wrote;
-use board::count_open;
-use board::write_open;
-use letters::is_damaged;
-use letters::with_letter;
-use letters::without_last;
-use words::is_letter;
 ghost use mathlib.Core.Path.{_≡_};
 ghost use Rattle.abelian.specs.Trackers.{freshTracker, adding, takingBack, clearing, trackerListing};
 ghost use Rattle.tracker.specs.Steps.{stepOf, listingOf};
@@ -45,28 +40,14 @@ pub fn fresh() -> Tracker
 pub fn add(tracker: Tracker, letter: u8) -> Stepped
     ensures { λ r. ⌜ stepOf r ≡ adding tracker letter ⌝ }
 {
-    let len = tracker.len;
-    if is_damaged(len, &tracker.bytes) {
-        return Stepped {
-            tracker,
-            outcome: Outcome::Refused(Refusal::TrackerDamaged),
-        };
-    }
-    if !is_letter(letter) {
-        return Stepped {
-            tracker,
-            outcome: Outcome::Refused(Refusal::NotALetter(1)),
-        };
-    }
-    if len == LONGEST {
-        return Stepped {
-            tracker,
-            outcome: Outcome::Refused(Refusal::TrackerFull),
-        };
-    }
+    let mut len = tracker.len;
+    let mut bytes = tracker.bytes;
+    let mut board = tracker.board;
+    let outcome = in_place::add(&mut len, &mut bytes, &mut board, letter);
+    let left = Tracker { len, bytes, board };
     Stepped {
-        tracker: with_letter(tracker, letter),
-        outcome: Outcome::Accepted,
+        tracker: left,
+        outcome,
     }
 }
 
@@ -74,22 +55,14 @@ pub fn add(tracker: Tracker, letter: u8) -> Stepped
 pub fn take_back(tracker: Tracker) -> Stepped
     ensures { λ r. ⌜ stepOf r ≡ takingBack tracker ⌝ }
 {
-    let n = tracker.len;
-    if is_damaged(n, &tracker.bytes) {
-        return Stepped {
-            tracker,
-            outcome: Outcome::Refused(Refusal::TrackerDamaged),
-        };
-    }
-    if n == 0 {
-        return Stepped {
-            tracker,
-            outcome: Outcome::Refused(Refusal::TrackerEmpty),
-        };
-    }
+    let mut len = tracker.len;
+    let mut bytes = tracker.bytes;
+    let mut board = tracker.board;
+    let outcome = in_place::take_back(&mut len, &mut bytes, &mut board);
+    let left = Tracker { len, bytes, board };
     Stepped {
-        tracker: without_last(tracker),
-        outcome: Outcome::Accepted,
+        tracker: left,
+        outcome,
     }
 }
 
@@ -97,9 +70,14 @@ pub fn take_back(tracker: Tracker) -> Stepped
 pub fn clear(tracker: Tracker) -> Stepped
     ensures { λ r. ⌜ stepOf r ≡ clearing tracker ⌝ }
 {
+    let mut len = tracker.len;
+    let mut bytes = tracker.bytes;
+    let mut board = tracker.board;
+    let outcome = in_place::clear(&mut len, &mut bytes, &mut board);
+    let left = Tracker { len, bytes, board };
     Stepped {
-        tracker: fresh(),
-        outcome: Outcome::Accepted,
+        tracker: left,
+        outcome,
     }
 }
 
@@ -108,23 +86,6 @@ pub fn clear(tracker: Tracker) -> Stepped
 pub fn list(tracker: Tracker, out: &mut [u32]) -> Listing
     ensures { λ r. ⌜ listingOf r (now (out .exit)) ≡ trackerListing tracker (now (out .entry)) ⌝ }
 {
-    let n = tracker.len;
-    if is_damaged(n, &tracker.bytes) {
-        return Listing {
-            tracker,
-            wrote: Wrote::Refused(Refusal::TrackerDamaged),
-        };
-    }
-    let words = count_open(&tracker.board, n);
-    if out.len() < words {
-        return Listing {
-            tracker,
-            wrote: Wrote::Refused(Refusal::SliceTooShort(words)),
-        };
-    }
-    write_open(&tracker.board, n, out);
-    Listing {
-        tracker,
-        wrote: Wrote::Words(words),
-    }
+    let wrote = in_place::list(tracker.len, &tracker.bytes, &tracker.board, out);
+    Listing { tracker, wrote }
 }

@@ -1,4 +1,4 @@
--- `history::refused_calls` meets its contract: the number of a refusal is not 0. Assumes nothing.
+-- `history::in_place::refused_calls` meets its contract: the number of a refusal is not 0. Assumes nothing.
 use mathlib.Core.Path.{sym, ap}
 use borrow.Author.Needs.{needs}
 use lib.Dec.{ltb}
@@ -6,8 +6,8 @@ use Rattle.abelian.specs.Lists.{one}
 use Rattle.abelian.specs.Answers.{answeredOutcome}
 use Rattle.abelian.specs.declared.Outcome.{Outcome}
 use Rattle.history.proofs.Replays.{refused-counts}
-use Rattle.history.proofs.refused_calls.Statement.{statement}
-use Rattle.history.proofs.refused_calls.Tie as tie
+use Rattle.history.proofs.in_place.refused_calls.Statement.{statement}
+use Rattle.history.proofs.in_place.refused_calls.Tie as tie
 
 enum-told : tie.Need-enum-told
 enum-told c = search needs

@@ -1,34 +1,36 @@
--- `tracker::add` meets its contract: each refusal in its turn, and else the tracker with one letter more. Assumes nothing.
+-- `tracker::in_place::add` meets its contract: each refusal in its turn, with the fields as they came, and else the tracker with one letter more.
+-- Assumes nothing.
 use mathlib.Core.Path.{_≡_, sym, ap, _∙_}
 use mathlib.Core.Bool.{true, false}
-use Prim.Native.Nat.{ℕ}
 use native.Mathlib.Omega.{arith}
 use borrow.Author.Tests.{not-true, not-false}
 use Rattle.abelian.specs.Words.{alphabetSize, longest, isLetter}
 use Rattle.abelian.specs.Trackers.{damaged}
 use Rattle.abelian.specs.declared.Tracker.{Tracker}
 use Rattle.abelian.proofs.Tests.{passes}
+use Rattle.tracker.specs.Fields.{ofFields}
 use Rattle.tracker.proofs.Damage.{damage-found, undamaged}
 use Rattle.tracker.proofs.Steps.{accepted, adding-damaged, adding-outside, adding-full, adding-accepted}
 use borrow.Author.Needs.{needs}
-use Rattle.tracker.proofs.add.Statement.{statement}
-use Rattle.tracker.proofs.add.Tie as tie
+use Rattle.tracker.proofs.in_place.add.Statement.{statement}
+use Rattle.tracker.proofs.in_place.add.Tie as tie
+
+-- the tracker that came
+abbrev came : tie.Start → Tracker
+came s = ofFields (s .args .len .now) (s .args .bytes .now) (s .args .board .now)
 
 is-damaged-requires : tie.Need-is-damaged-requires
 is-damaged-requires c κs = search needs
 
 returns : tie.Need-returns
 returns c =
-    let old : Tracker = c .before .before .before .before .args .t1 in
+    let old : Tracker = came (c .before .before .before .before) in
     sym (adding-damaged old _ (damage-found old (c .before .is-damaged .ensures) (c .if1 .taken)))
 
 -- the tracker is not damaged
 module _ (c : tie.Else1) where
   abbrev old : Tracker
-  old = c .before .before .before .before .args .t1
-
-  abbrev letter : ℕ
-  letter = c .before .before .before .before .args .letter
+  old = came (c .before .before .before .before)
 
   sound : damaged old ≡ false
   sound = damage-found old (c .before .is-damaged .ensures) (c .if1 .left)
@@ -39,29 +41,31 @@ is-letter-requires c κs = search needs
 returns-2 : tie.Need-returns-2
 returns-2 c =
     let e = c .before .before in
-    sym (adding-outside (old e) (letter e) (sound e) (sym (c .before .is-letter .ensures) ∙ not-true _ (c .if2 .taken)))
+    sym (adding-outside (old e) _ (sound e) (sym (c .before .is-letter .ensures) ∙ not-true _ (c .if2 .taken)))
 
 -- and the byte is a letter
-inside : (c : tie.Else2) → isLetter alphabetSize (letter (c .before .before)) ≡ true
+inside : (c : tie.Else2) → isLetter alphabetSize (c .before .before .before .before .before .before .args .letter) ≡ true
 inside c = sym (c .before .is-letter .ensures) ∙ not-false _ (c .if2 .left)
 
 returns-3 : tie.Need-returns-3
 unfolding longest
 returns-3 c =
     let e = c .before .before .before in
-    sym (adding-full (old e) (letter e) (sound e) (inside (c .before)) (c .if3 .taken))
+    sym (adding-full (old e) _ (sound e) (inside (c .before)) (c .if3 .taken))
 
-with-letter-requires : tie.Need-with-letter-requires
+store-letter-requires : tie.Need-store-letter-requires
 unfolding longest
-with-letter-requires c κs =
-    let e = c .before .before .before in
-    (sound e, (omega (arith, undamaged (old e) (sound e) .0, c .if3 .left), passes _ (inside (c .before))))
+store-letter-requires c κs =
+    let room = c .before .before .before in
+    let e = room .before .before .before in
+    (sound e, (omega (arith, undamaged (old e) (sound e) .0, room .if3 .left), passes _ (inside (room .before))))
 
 returns-4 : tie.Need-returns-4
 unfolding longest
 returns-4 c =
-    let e = c .before .before .before .before in
-    ap accepted (c .with-letter .ensures) ∙ sym (adding-accepted (old e) (letter e) (sound e) (inside (c .before .before)) (c .before .if3 .left))
+    let room = c .before .before .before .before in
+    let e = room .before .before .before in
+    ap accepted (c .store-letter .ensures) ∙ sym (adding-accepted (old e) _ (sound e) (inside (room .before)) (room .if3 .left))
 
 pub add-spec : {M : Type 1} → statement M
 add-spec =
@@ -72,5 +76,5 @@ add-spec =
     is-letter-requires
     returns-2
     returns-3
-    with-letter-requires
+    store-letter-requires
     returns-4)

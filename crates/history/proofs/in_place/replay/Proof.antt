@@ -1,31 +1,34 @@
--- `history::replay` meets its contract: the tracker and the number of refusals are the machine's for the bytes read so far. Assumes nothing.
-use mathlib.Core.Path.{_∙_}
+-- `history::in_place::replay` meets its contract: the tracker and the number of refusals are the machine's for the bytes read so far. Assumes nothing.
+use mathlib.Core.Path.{ap, _∙_}
 use mathlib.Core.List.{List}
 use Prim.Native.Nat.{ℕ, _-_, _≤_}
 use native.Mathlib.Omega.{arith}
 use lib.ListN.{length}
+use Rattle.abelian.specs.Trackers.{Step, clearing}
 use Rattle.abelian.specs.declared.Tracker.{Tracker}
+use Rattle.tracker.specs.Fields.{ofFields}
 use Rattle.history.proofs.TrackerHolding.{fresh-empty}
 use Rattle.history.proofs.Replays.{FirstReplayed, none-replayed, refused-le, next-replayed, all-replayed, at-most-one}
 use borrow.Author.Needs.{needs}
-use Rattle.history.proofs.replay.Statement.{statement}
-use Rattle.history.proofs.replay.Tie as tie
+use Rattle.history.proofs.in_place.replay.Statement.{statement}
+use Rattle.history.proofs.in_place.replay.Tie as tie
 
 record Inv (calls : List ℕ) (tracker : Tracker) (refused i : ℕ) : Type 0 where
   within : i ≤ length calls
   replayed : FirstReplayed calls i tracker refused
 
 abbrev Inv-loop : tie.InvT-loop
-Inv-loop calls out tracker₀ refused₀ i₀ tracker refused i = Inv calls tracker refused i
+Inv-loop calls out len₀ bytes₀ board₀ refused₀ i₀ len bytes board refused i = Inv calls (ofFields len bytes board) refused i
 
 abbrev μ-loop : tie.MeasureT-loop
-μ-loop calls out tracker₀ refused₀ i₀ tracker refused i = length calls - i
+μ-loop calls out len₀ bytes₀ board₀ refused₀ i₀ len bytes board refused i = length calls - i
 
-fresh-requires : tie.Need-fresh-requires Inv-loop μ-loop
-fresh-requires c κs = search needs
+clear-requires : tie.Need-clear-requires Inv-loop μ-loop
+clear-requires c κs = search needs
 
 loop-holds : tie.Need-loop-holds Inv-loop μ-loop
-loop-holds c = record { within = omega arith; replayed = none-replayed _ (c .fresh .ensures ∙ fresh-empty) }
+unfolding clearing
+loop-holds c = record { within = omega arith; replayed = none-replayed _ (ap (λ (s : Step). s .tracker) (c .clear .ensures) ∙ fresh-empty) }
 
 shared-slice-read-call : tie.Need-shared-slice-read-call Inv-loop μ-loop
 shared-slice-read-call c = search needs
@@ -38,8 +41,8 @@ refused-calls-requires c κs = search needs
 
 add-refused : tie.Need-add-refused Inv-loop μ-loop
 add-refused c =
-    let start = c .before .before .before .before .before in
-    omega (arith, refused-le _ _ (start .loop .inv .replayed), at-most-one (c .before .before .call .result .outcome) _ (c .refused-calls .ensures))
+    let old = c .before .before .before .before .before .before .before .loop in
+    omega (arith, refused-le _ _ (old .inv .replayed), at-most-one (c .before .call .result) _ (c .refused-calls .ensures))
 
 add-i : tie.Need-add-i Inv-loop μ-loop
 add-i c = search needs
@@ -49,8 +52,8 @@ loop-less c = omega arith
 
 loop-again : tie.Need-loop-again Inv-loop μ-loop
 loop-again c =
-    let old = c .before .before .before .before .before .loop in
-    record { within = omega arith; replayed = next-replayed _ _ (omega arith) (old .inv .replayed) _ _ (c .before .before .call .ensures) (c .refused-calls .ensures) }
+    let old = c .before .before .before .before .before .before .before .loop in
+    record { within = omega arith; replayed = next-replayed _ _ (omega arith) (old .inv .replayed) _ _ (c .before .call .ensures) (c .refused-calls .ensures) }
 
 list-requires : tie.Need-list-requires Inv-loop μ-loop
 list-requires c κs = search needs
@@ -59,7 +62,9 @@ same-length : tie.Need-same-length Inv-loop μ-loop
 same-length c = search needs
 
 returns : tie.Need-returns Inv-loop μ-loop
-returns c = all-replayed _ _ _ (c .before .before .before .before .before .before .loop .inv .replayed) (omega arith) _ (c .before .before .before .list .ensures)
+returns c =
+    let listed = c .before .before in
+    all-replayed _ _ _ (listed .before .before .before .before .before .before .loop .inv .replayed) (omega arith) _ (listed .list .ensures)
 
 pub replay-spec : {M : Type 1} → statement M
 replay-spec =
@@ -67,7 +72,7 @@ replay-spec =
     (tie.spec
     Inv-loop
     μ-loop
-    fresh-requires
+    clear-requires
     loop-holds
     shared-slice-read-call
     call-requires

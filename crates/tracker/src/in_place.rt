@@ -1,0 +1,91 @@
+// The tracker's calls in place. Each works on the fields of a tracker that the caller lends, the length, the bytes and the board, and answers; what
+// the fields then hold and the answer are those of document 01's step. A refused call stores nothing. The contracts hold of every tracker,
+// also of one that no calls have made.
+use crate::letters::is_damaged;
+use crate::letters::remove_last;
+use crate::letters::store_letter;
+use abelian::BOARD;
+use abelian::LONGEST;
+use abelian::Outcome;
+use abelian::Refusal;
+use abelian::Wrote;
+use board::count_open;
+use board::write_open;
+use words::is_letter;
+ghost use mathlib.Core.Path.{_≡_};
+ghost use Rattle.abelian.specs.Answers.{answeredOutcome, answeredWrote};
+ghost use Rattle.abelian.specs.Trackers.{adding, takingBack, clearing, trackerListing};
+ghost use Rattle.tracker.specs.Fields.{ofFields, asStep};
+
+// Adds a letter at the end, and ends the open pairs that are no Abelian period of the letters then held.
+pub fn add(
+    len: &mut usize,
+    bytes: &mut [u8; LONGEST],
+    board: &mut [u8; BOARD],
+    letter: u8,
+) -> Outcome
+    ensures { λ r. ⌜ asStep (ofFields (now (len .exit)) (now (bytes .exit)) (now (board .exit))) (answeredOutcome r)
+        ≡ adding (ofFields (now (len .entry)) (now (bytes .entry)) (now (board .entry))) letter ⌝ }
+{
+    let n = *len;
+    if is_damaged(n, bytes) {
+        return Outcome::Refused(Refusal::TrackerDamaged);
+    }
+    if !is_letter(letter) {
+        return Outcome::Refused(Refusal::NotALetter(1));
+    }
+    if n == LONGEST {
+        return Outcome::Refused(Refusal::TrackerFull);
+    }
+    store_letter(len, bytes, board, letter);
+    Outcome::Accepted
+}
+
+// Takes the last letter back, and opens the pairs again that ended with it.
+pub fn take_back(len: &mut usize, bytes: &mut [u8; LONGEST], board: &mut [u8; BOARD]) -> Outcome
+    ensures { λ r. ⌜ asStep (ofFields (now (len .exit)) (now (bytes .exit)) (now (board .exit))) (answeredOutcome r)
+        ≡ takingBack (ofFields (now (len .entry)) (now (bytes .entry)) (now (board .entry))) ⌝ }
+{
+    let n = *len;
+    if is_damaged(n, bytes) {
+        return Outcome::Refused(Refusal::TrackerDamaged);
+    }
+    if n == 0 {
+        return Outcome::Refused(Refusal::TrackerEmpty);
+    }
+    remove_last(len, bytes, board);
+    Outcome::Accepted
+}
+
+// Leaves a fresh tracker, whatever the fields were, and accepts always. So it also makes a first tracker of fields that hold anything.
+pub fn clear(len: &mut usize, bytes: &mut [u8; LONGEST], board: &mut [u8; BOARD]) -> Outcome
+    ensures { λ r. ⌜ asStep (ofFields (now (len .exit)) (now (bytes .exit)) (now (board .exit))) (answeredOutcome r)
+        ≡ clearing (ofFields (now (len .entry)) (now (bytes .entry)) (now (board .entry))) ⌝ }
+{
+    *len = 0;
+    *bytes = [0; LONGEST];
+    *board = [0; BOARD];
+    Outcome::Accepted
+}
+
+// Lists the open pairs in range for the letters held. They are counted before the first word is written, so that a refusal leaves the slice
+// as it came. The fields are lent for reading alone.
+pub fn list<'a>(
+    len: usize,
+    bytes: &'a [u8; LONGEST],
+    board: &'a [u8; BOARD],
+    out: &mut [u32],
+) -> Wrote
+    ensures { λ r. ⌜ asStep (ofFields len (now (bytes .entry)) (now (board .entry))) (answeredWrote r (now (out .exit)))
+        ≡ trackerListing (ofFields len (now (bytes .entry)) (now (board .entry))) (now (out .entry)) ⌝ }
+{
+    if is_damaged(len, bytes) {
+        return Wrote::Refused(Refusal::TrackerDamaged);
+    }
+    let words = count_open(board, len);
+    if out.len() < words {
+        return Wrote::Refused(Refusal::SliceTooShort(words));
+    }
+    write_open(board, len, out);
+    Wrote::Words(words)
+}
