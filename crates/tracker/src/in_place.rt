@@ -46,11 +46,11 @@ pub fn take_back(len: &mut usize, bytes: &mut [u8; LONGEST], board: &mut [u8; BO
     ensures { λ r. ⌜ asStep (ofFields (now (len .exit)) (now (bytes .exit)) (now (board .exit))) (answeredOutcome r)
         ≡ takingBack (ofFields (now (len .entry)) (now (bytes .entry)) (now (board .entry))) ⌝ }
 {
-    let n = *len;
-    if is_damaged(n, bytes) {
+    let held = *len;
+    if is_damaged(held, bytes) {
         return Outcome::Refused(Refusal::TrackerDamaged);
     }
-    if n == 0 {
+    if held == 0 {
         return Outcome::Refused(Refusal::TrackerEmpty);
     }
     remove_last(len, bytes, board);

@@ -44,9 +44,9 @@ pub fn add(tracker: Tracker, letter: u8) -> Stepped
     let mut bytes = tracker.bytes;
     let mut board = tracker.board;
     let outcome = in_place::add(&mut len, &mut bytes, &mut board, letter);
-    let left = Tracker { len, bytes, board };
+    let longer = Tracker { len, bytes, board };
     Stepped {
-        tracker: left,
+        tracker: longer,
         outcome,
     }
 }
@@ -59,9 +59,9 @@ pub fn take_back(tracker: Tracker) -> Stepped
     let mut bytes = tracker.bytes;
     let mut board = tracker.board;
     let outcome = in_place::take_back(&mut len, &mut bytes, &mut board);
-    let left = Tracker { len, bytes, board };
+    let shorter = Tracker { len, bytes, board };
     Stepped {
-        tracker: left,
+        tracker: shorter,
         outcome,
     }
 }
@@ -74,9 +74,9 @@ pub fn clear(tracker: Tracker) -> Stepped
     let mut bytes = tracker.bytes;
     let mut board = tracker.board;
     let outcome = in_place::clear(&mut len, &mut bytes, &mut board);
-    let left = Tracker { len, bytes, board };
+    let cleared = Tracker { len, bytes, board };
     Stepped {
-        tracker: left,
+        tracker: cleared,
         outcome,
     }
 }

@@ -1,0 +1,103 @@
+// The tracker's calls for C. The caller keeps a tracker as its three fields, the length, the bytes and the board, and lends them to each call,
+// which works on them in place.
+use crate::numbers::LuffOutcome;
+use crate::numbers::LuffReplayed;
+use crate::numbers::LuffWrote;
+use crate::numbers::of_outcome;
+use crate::numbers::of_wrote;
+use abelian::BOARD;
+use abelian::LONGEST;
+ghost use mathlib.Core.Path.{_≡_};
+ghost use Rattle.abelian.specs.Trackers.{freshTracker, adding, takingBack, clearing, trackerListing};
+ghost use Rattle.tracker.specs.Fields.{ofFields, asStep};
+ghost use Rattle.history.specs.Replay.{asReplay, replaying};
+ghost use Rattle.luffbutton.specs.Numbers.{outcomeNumbers, wroteNumbers, replayedNumbers};
+
+// Makes the fields those of a fresh tracker, whatever they were.
+#[no_mangle]
+pub extern "C" fn luff_tracker_fresh_fields(
+    len: &mut usize,
+    bytes: &mut [u8; LONGEST],
+    board: &mut [u8; BOARD],
+)
+    ensures { λ _. ⌜ ofFields (now (len .exit)) (now (bytes .exit)) (now (board .exit)) ≡ freshTracker ⌝ }
+{
+    tracker::in_place::clear(len, bytes, board);
+}
+
+// Adds a letter at the end.
+#[no_mangle]
+pub extern "C" fn luff_tracker_add_fields(
+    len: &mut usize,
+    bytes: &mut [u8; LONGEST],
+    board: &mut [u8; BOARD],
+    letter: u8,
+) -> LuffOutcome
+    ensures { λ r. ⌜ asStep (ofFields (now (len .exit)) (now (bytes .exit)) (now (board .exit))) (outcomeNumbers r)
+        ≡ adding (ofFields (now (len .entry)) (now (bytes .entry)) (now (board .entry))) letter ⌝ }
+{
+    of_outcome(tracker::in_place::add(len, bytes, board, letter))
+}
+
+// Takes the last letter back.
+#[no_mangle]
+pub extern "C" fn luff_tracker_take_back_fields(
+    len: &mut usize,
+    bytes: &mut [u8; LONGEST],
+    board: &mut [u8; BOARD],
+) -> LuffOutcome
+    ensures { λ r. ⌜ asStep (ofFields (now (len .exit)) (now (bytes .exit)) (now (board .exit))) (outcomeNumbers r)
+        ≡ takingBack (ofFields (now (len .entry)) (now (bytes .entry)) (now (board .entry))) ⌝ }
+{
+    of_outcome(tracker::in_place::take_back(len, bytes, board))
+}
+
+// Leaves a fresh tracker. Every tracker is accepted.
+#[no_mangle]
+pub extern "C" fn luff_tracker_clear_fields(
+    len: &mut usize,
+    bytes: &mut [u8; LONGEST],
+    board: &mut [u8; BOARD],
+) -> LuffOutcome
+    ensures { λ r. ⌜ asStep (ofFields (now (len .exit)) (now (bytes .exit)) (now (board .exit))) (outcomeNumbers r)
+        ≡ clearing (ofFields (now (len .entry)) (now (bytes .entry)) (now (board .entry))) ⌝ }
+{
+    of_outcome(tracker::in_place::clear(len, bytes, board))
+}
+
+// Lists the open pairs in range for the letters held. The fields are read alone.
+#[no_mangle]
+pub extern "C" fn luff_tracker_list_fields<'a>(
+    len: usize,
+    bytes: &'a [u8; LONGEST],
+    board: &'a [u8; BOARD],
+    out: &mut [u32],
+) -> LuffWrote
+    ensures { λ r. ⌜ asStep (ofFields len (now (bytes .entry)) (now (board .entry))) (wroteNumbers r (now (out .exit)))
+        ≡ trackerListing (ofFields len (now (bytes .entry)) (now (board .entry))) (now (out .entry)) ⌝ }
+{
+    of_wrote(tracker::in_place::list(len, bytes, board, out))
+}
+
+// Makes the fields those of a fresh tracker, whatever they were, and replays a field log on them.
+#[no_mangle]
+pub extern "C" fn luff_tracker_replay_fields(
+    calls: &[u8],
+    out: &mut [u32],
+    len: &mut usize,
+    bytes: &mut [u8; LONGEST],
+    board: &mut [u8; BOARD],
+) -> LuffReplayed
+    ensures { λ r. ⌜ asReplay (ofFields (now (len .exit)) (now (bytes .exit)) (now (board .exit))) (r .refused) (replayedNumbers r (now (out .exit)))
+        ≡ replaying (now (calls .entry)) (now (out .entry)) ⌝ }
+{
+    let answer = history::in_place::replay(calls, out, len, bytes, board);
+    let wrote = answer.wrote;
+    let listed = of_wrote(wrote);
+    LuffReplayed {
+        refusal: listed.refusal,
+        value: listed.value,
+        refused: answer.refused,
+        written: listed.written,
+    }
+}
