@@ -14,9 +14,9 @@ use Rattle.abelian.specs.Covers.{within, isCoverLength, coverLength}
 use Rattle.abelian.specs.Refusals.{firstHolding, wordRefusal, trackerRefusal}
 use Rattle.abelian.specs.Calls.{firstFailure, judging, listing, periodWords, fullWords, plainListing, skippingListing, fullListing, scaledListing, squareListing, noneOrLength, coverAnswer, reportWords, reporting}
 use Rattle.abelian.specs.Trackers.{boardSize, freshTracker, damagedBytes, damaged, entries, pairsWhere, stepUnless, entryAdded, added, adding, shortened, takingBack, clearing, openPairs, trackerListing}
-use Rattle.abelian.specs.Marked.{entryOf, isOneOf, numbers, sameAnswer, refusal, rowHolds, marked, more}
+use Rattle.abelian.specs.Marked.{entryOf, isOneOf, numbers, sameAnswer, refusal, answersOneOf, rowHolds, marked, more}
 
 -- P1 to P11 of document 01, and the rows for clauses that these leave untried.
 pub marked-words : T (all rowHolds marked && all rowHolds more)
-unfolding alphabetSize firstLetter longest letters isLetter outsideFrom firstOutside ofLetters count vector noneAbove contained inRange heads row pairs headOf block wholeBlocks tailOf isPeriod periods outputWord periodWord squareWord fullWord reportHead fill plainTrials ruledOut occurrence distance greatestGap occurrenceBound lowestTried isCandidate candidates skippingTrials divides fullPeriods countDivisor scale isScaled scaledPositions distances scaledGap endedLength boardOf blockAt isEnd breaks failures isSquare squareStarts squareWords within isCoverLength coverLength firstHolding wordRefusal trackerRefusal firstFailure judging listing periodWords fullWords plainListing skippingListing fullListing scaledListing squareListing noneOrLength coverAnswer reportWords reporting boardSize freshTracker damagedBytes damaged entries pairsWhere stepUnless entryAdded added adding shortened takingBack clearing openPairs trackerListing entryOf isOneOf numbers sameAnswer refusal rowHolds marked more
+unfolding alphabetSize firstLetter longest letters isLetter outsideFrom firstOutside ofLetters count vector noneAbove contained inRange heads row pairs headOf block wholeBlocks tailOf isPeriod periods outputWord periodWord squareWord fullWord reportHead fill plainTrials ruledOut occurrence distance greatestGap occurrenceBound lowestTried isCandidate candidates skippingTrials divides fullPeriods countDivisor scale isScaled scaledPositions distances scaledGap endedLength boardOf blockAt isEnd breaks failures isSquare squareStarts squareWords within isCoverLength coverLength firstHolding wordRefusal trackerRefusal firstFailure judging listing periodWords fullWords plainListing skippingListing fullListing scaledListing squareListing noneOrLength coverAnswer reportWords reporting boardSize freshTracker damagedBytes damaged entries pairsWhere stepUnless entryAdded added adding shortened takingBack clearing openPairs trackerListing entryOf isOneOf numbers sameAnswer refusal answersOneOf rowHolds marked more
 marked-words = tt

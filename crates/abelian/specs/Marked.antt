@@ -4,8 +4,8 @@ use Prim.Native.Nat.{ℕ, suc, _+_, _-_}
 use mathlib.Core.Bool.{Bool, false, _&&_, _||_}
 use mathlib.Core.List.{List, [], _∷_, map}
 use lib.ListN.{length, take, replicate}
-use lib.Dec.{eqb}
-use Rattle.abelian.specs.Lists.{pick, same, largest}
+use lib.Dec.{eqb, ltb}
+use Rattle.abelian.specs.Lists.{pick, one, same, largest}
 use Rattle.abelian.specs.Words.{alphabetSize, firstLetter, longest}
 use Rattle.abelian.specs.Periods.{Pair, pair, pairs}
 use Rattle.abelian.specs.Output.{periodWord, squareWord}
@@ -13,9 +13,8 @@ use Rattle.abelian.specs.Trials.{plainTrials, skippingTrials}
 use Rattle.abelian.specs.FullPeriods.{fullPeriods, scale, scaledGap}
 use Rattle.abelian.specs.EndedLengths.{endedLength}
 use Rattle.abelian.specs.Squares.{squareWords}
-use Rattle.abelian.specs.Covers.{coverLength}
 use Rattle.abelian.specs.Answers.{Answer, writing, deciding}
-use Rattle.abelian.specs.Calls.{judging, periodWords, reportWords, plainListing, skippingListing, scaledListing, coverAnswer}
+use Rattle.abelian.specs.Calls.{judging, periodWords, reportWords, plainListing, skippingListing, fullListing, scaledListing, squareListing, coverAnswer, reporting}
 use Rattle.abelian.specs.Trackers.{entries, freshTracker, adding, takingBack, clearing, trackerListing}
 use Rattle.abelian.specs.declared.Tracker.{Tracker}
 
@@ -27,7 +26,7 @@ pub data Row : Type 0 where
   fullAre : List ℕ → List ℕ → Row
   -- the squares' words, in order
   squaresAre : List ℕ → List ℕ → Row
-  -- the lengths of which the cover's is one; no cover where there is none
+  -- the lengths of which the answered cover's is one; no cover where there is none
   coverIsOneOf : List ℕ → List ℕ → Row
   -- s and T
   scaledBy : List ℕ → ℕ → ℕ → Row
@@ -73,12 +72,16 @@ unfoldable pub refusal : ℕ → ℕ → List ℕ → Answer
 refusal number value out =
     record { number = number; value = value; written = 0; trials = 0; s = 0; t = 0; yes = 0; block = 0; letter = 0; cover = 0; output = out }
 
+-- the answer is no, where the list is empty, and else yes with one of its lengths
+unfoldable pub answersOneOf : Answer → List ℕ → Bool
+answersOneOf x ms = isOneOf (x .cover) ms && sameAnswer x (deciding (one (ltb 0 (length ms))) 0 0 (x .cover))
+
 -- what document 01 says is so by the definitions
 unfoldable pub rowHolds : Row → Bool
 rowHolds (periodsAre w xs) = same (periodWords w) (map periodWord xs)
 rowHolds (fullAre w ps) = same (fullPeriods w) ps
 rowHolds (squaresAre w ws) = same (squareWords w) ws
-rowHolds (coverIsOneOf w ms) = isOneOf (coverLength w) ms
+rowHolds (coverIsOneOf w ms) = answersOneOf (coverAnswer w) ms
 rowHolds (scaledBy w s t) = eqb (scale w) s && eqb (scaledGap w) t
 rowHolds (trialsAre w plain skipping) = eqb (plainTrials w) plain && eqb (skippingTrials w) skipping
 rowHolds (endsAt w x m) = eqb (endedLength w x) m
@@ -190,7 +193,11 @@ more =
     -- each answer's numbers; an accepted list keeps the places behind it
     ∷ writes (plainListing abb (5 ∷ 6 ∷ 7 ∷ [])) 2 4 0 0 (268468224 ∷ 268484608 ∷ 7 ∷ [])
     ∷ writes (skippingListing abb (5 ∷ 6 ∷ [])) 2 3 0 0 (268468224 ∷ 268484608 ∷ [])
+    ∷ writes (fullListing (a ∷ a ∷ []) (5 ∷ 6 ∷ 7 ∷ [])) 2 0 0 0 (805322754 ∷ 805339137 ∷ 7 ∷ [])
     ∷ writes (scaledListing abba (5 ∷ 6 ∷ 7 ∷ [])) 2 0 2 1 (805339138 ∷ 805371905 ∷ 7 ∷ [])
+    ∷ writes (squareListing abba (5 ∷ 6 ∷ 7 ∷ [])) 2 0 0 0 (536887298 ∷ 536903681 ∷ 7 ∷ [])
+    ∷ writes (reporting abb (5 ∷ 6 ∷ 7 ∷ 8 ∷ 9 ∷ 10 ∷ [])) 5 0 0 0
+    (2147532800 ∷ 805355521 ∷ 268468224 ∷ 268484608 ∷ 536887298 ∷ 10 ∷ [])
     -- the table of refusals: each with its example, the slice as it came, and those that come before others
     ∷ refuses (coverAnswer (replicate 241 a)) 1 0 []
     ∷ refuses (coverAnswer (B ∷ replicate 240 a)) 1 0 []
