@@ -7,7 +7,8 @@ use lib.Dec.{leb, eqb}
 use Rattle.abelian.specs.Lists.{pick}
 use Rattle.abelian.specs.Periods.{Pair}
 
--- Where the row of a period begins: behind all pairs with a smaller one. Rows grow by one pair up to p = 120 and then shrink by one.
+-- Where the row of a period begins: behind all pairs with a smaller one. Rows grow by one pair up to p = 120; the row of 121 has 120
+-- pairs too, and from 122 on they shrink by one.
 unfoldable pub rowStart : ℕ → ℕ
 rowStart p = pick (leb p 121) (p * (p - 1) / 2) (14520 - (241 - p) * (242 - p) / 2)
 

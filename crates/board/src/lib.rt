@@ -1,5 +1,5 @@
-// The board: one entry for each pair in range for 240, in pair order. The place of a pair, and the pairs whose entry is 0 counted and
-// written: the tracker's list and both listers end in these two. For the crates above.
+// The board: one entry for each pair in range for 240, in pair order. Where the row of a period begins and how long it is, and the pairs
+// whose entry is 0 counted and written: the tracker's list and both listers end in these two. For the crates above.
 pub mod ending;
 mod row_starts;
 
@@ -10,14 +10,13 @@ use row_starts::ROW_STARTS;
 ghost use mathlib.Core.Path.{_≡_};
 ghost use mathlib.Core.List.{map};
 ghost use Prim.Native.Nat.{_+_, _≤_};
-ghost use lib.Dec.{T};
 ghost use lib.ListN.{length};
 ghost use lib.Seq.{sets};
 ghost use Rattle.abelian.specs.Words.{longest, count};
-ghost use Rattle.abelian.specs.Periods.{pair, inRange, heads};
+ghost use Rattle.abelian.specs.Periods.{pair, heads};
 ghost use Rattle.abelian.specs.Output.{periodWord, fill};
 ghost use Rattle.abelian.specs.Trackers.{openPairs};
-ghost use Rattle.board.specs.Places.{rowStart, placeOf};
+ghost use Rattle.board.specs.Places.{rowStart};
 ghost use Rattle.board.specs.Rows.{rowWords};
 
 // Where the row of the period begins.
@@ -27,14 +26,6 @@ pub fn row_start(period: Period) -> usize
 {
     let p = period.0;
     ROW_STARTS[p] as usize
-}
-
-// The place of the pair's entry.
-pub fn place(head: Head, period: Period) -> usize
-    requires { ⌜ T (inRange longest (pair (head .0) (period .0))) ⌝ }
-    ensures { λ r. ⌜ r ≡ placeOf (pair (head .0) (period .0)) ⌝ }
-{
-    row_start(period) + head.0
 }
 
 // How many heads are in range for n with the period: those below p that leave room for a block.
