@@ -1,4 +1,4 @@
--- Document 002: the greatest common divisor of the letter counts, scaled positions, Lemma 3 and Observations 1 and 4, for words of letters.
+-- Document 002: the greatest common divisor of the letter counts, scaled positions, Lemma 3 and Observation 1, for words of letters.
 use mathlib.Core.Path.{_≡_, refl, sym, ap, subst, _∙_}
 use mathlib.Core.Bool.{Bool}
 use mathlib.Core.Logic.{⊎-elim, _↔_}

@@ -16,8 +16,7 @@ ghost use lib.Dec.{T};
 ghost use lib.ListN.{length};
 ghost use Rattle.abelian.specs.Words.{longest, ofLetters};
 ghost use Rattle.abelian.specs.FullPeriods.{fullPeriods};
-ghost use Rattle.abelian.specs.Output.{fill};
-ghost use Rattle.abelian.specs.Calls.{fullWords, fullListing, scaledListing};
+ghost use Rattle.abelian.specs.Calls.{fullListing, scaledListing};
 ghost use Rattle.abelian.specs.Answers.{answeredWrote, answeredScaled};
 
 // Writes the full periods by rising p, found by counting every block.
@@ -64,16 +63,4 @@ pub fn count_full(word: &[u8]) -> usize
     let path = scaled::find_path(word);
     let marks = path.marks;
     marks::count_marked(&marks, word.len(), path.s)
-}
-
-// Writes the full periods of a word that may be taken into a slice with places enough. For the crates above.
-pub fn write_full(word: &[u8], out: &mut [u32])
-    requires { ⌜ T (ofLetters (now word)) ⌝ }
-    requires { ⌜ length (now word) ≤ longest ⌝ }
-    requires { ⌜ length (fullPeriods (now word)) ≤ length (now out) ⌝ }
-    ensures { λ _. ⌜ now (out .exit) ≡ fill (fullWords (now (word .entry))) (now (out .entry)) ⌝ }
-{
-    let path = scaled::find_path(word);
-    let marks = path.marks;
-    marks::write_marked(&marks, word.len(), path.s, out);
 }
