@@ -7,10 +7,8 @@ use full_periods::count_full;
 use full_periods::list_full_scaled;
 use listers::candidates::count_periods;
 use listers::list_skipping;
-use squares::CANDIDATES;
+use squares::count_squares;
 use squares::list_squares;
-use squares::marks::mark_squares;
-use words::prefix_counts;
 ghost use mathlib.Core.Path.{_≡_};
 ghost use Prim.Native.Nat.{_≤_};
 ghost use lib.Dec.{T, ltb};
@@ -18,7 +16,6 @@ ghost use lib.ListN.{length};
 ghost use Rattle.abelian.specs.Lists.{one};
 ghost use Rattle.abelian.specs.Words.{longest, ofLetters};
 ghost use Rattle.abelian.specs.Covers.{coverLength};
-ghost use Rattle.abelian.specs.Squares.{squareWords};
 ghost use Rattle.abelian.specs.Output.{reportHead, fill};
 ghost use Rattle.abelian.specs.Calls.{reportWords};
 
@@ -40,17 +37,6 @@ fn head_word(word: &[u8]) -> u32
     } else {
         head + 1
     }
-}
-
-// The number of squares of the word.
-fn count_squares(word: &[u8]) -> usize
-    requires { ⌜ T (ofLetters (now word)) ⌝ }
-    requires { ⌜ length (now word) ≤ longest ⌝ }
-    ensures { λ r. ⌜ r ≡ length (squareWords (now (word .entry))) ⌝ }
-{
-    let counts = prefix_counts(word);
-    let mut marks = [0u8; CANDIDATES];
-    mark_squares(word, &counts, &mut marks)
 }
 
 // The number of words of the report.

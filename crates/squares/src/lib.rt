@@ -1,8 +1,8 @@
 // Abelian squares of a word (document 003): two parts side by side with equal count vectors. A candidate is a half length with a
 // start; each candidate is compared once and marked, so that a list that is too long is refused before the first place of the slice
 // is written.
-pub mod marks;
-pub mod output;
+mod marks;
+mod output;
 
 use abelian::LONGEST;
 use abelian::Outcome;
@@ -11,6 +11,11 @@ use abelian::Wrote;
 use marks::mark_squares;
 use output::write_squares;
 ghost use mathlib.Core.Path.{_≡_};
+ghost use Prim.Native.Nat.{_≤_};
+ghost use lib.Dec.{T};
+ghost use lib.ListN.{length};
+ghost use Rattle.abelian.specs.Words.{longest, ofLetters};
+ghost use Rattle.abelian.specs.Squares.{squareWords};
 ghost use Rattle.abelian.specs.Answers.{answeredWrote};
 ghost use Rattle.abelian.specs.Calls.{squareListing};
 
@@ -32,4 +37,15 @@ pub fn list_squares(word: &[u8], out: &mut [u32]) -> Wrote
     }
     write_squares(word, &marks, out);
     Wrote::Words(needed)
+}
+
+// The number of squares of a word that may be taken. For the crates above.
+pub fn count_squares(word: &[u8]) -> usize
+    requires { ⌜ T (ofLetters (now word)) ⌝ }
+    requires { ⌜ length (now word) ≤ longest ⌝ }
+    ensures { λ r. ⌜ r ≡ length (squareWords (now (word .entry))) ⌝ }
+{
+    let counts = words::prefix_counts(word);
+    let mut marks = [0u8; CANDIDATES];
+    mark_squares(word, &counts, &mut marks)
 }

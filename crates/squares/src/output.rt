@@ -15,7 +15,7 @@ const SQUARE: u32 = 2 * 268435456;
 const UPPER: u32 = 16384;
 
 // The output word of a square: the half length above, and the start below.
-pub fn square_word(half: usize, start: usize) -> u32
+fn square_word(half: usize, start: usize) -> u32
     requires { ⌜ half ≤ longest ⌝ }
     requires { ⌜ start ≤ longest ⌝ }
     ensures { λ r. ⌜ r ≡ squareWord half start ⌝ }
@@ -43,9 +43,8 @@ fn write_starts(half: usize, marks: &[u8], out: &mut [u32]) -> usize
     at
 }
 
-// Writes the words of all squares into the first places of the slice, each half length's behind those of the smaller ones. For the
-// crates above.
-pub fn write_squares(word: &[u8], marks: &[u8], out: &mut [u32])
+// Writes the words of all squares into the first places of the slice, each half length's behind those of the smaller ones.
+pub(crate) fn write_squares(word: &[u8], marks: &[u8], out: &mut [u32])
     requires { ⌜ length (now word) ≤ longest ⌝ }
     requires { ⌜ take (length (squareMarks (now word))) (now marks) ≡ squareMarks (now word) ⌝ }
     requires { ⌜ length (squareWords (now word)) ≤ length (now out) ⌝ }

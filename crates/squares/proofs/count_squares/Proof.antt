@@ -1,9 +1,9 @@
--- `report::parts::count_squares` meets its contract: every candidate has a place for its mark. Assumes nothing.
+-- `squares::count_squares` meets its contract: every candidate has a place for its mark. Assumes nothing.
 use borrow.Author.Needs.{needs}
 use Rattle.abelian.specs.Words.{longest}
 use Rattle.squares.proofs.Candidates.{candidates-bound}
-use Rattle.report.proofs.parts.count_squares.Statement.{statement}
-use Rattle.report.proofs.parts.count_squares.Tie as tie
+use Rattle.squares.proofs.count_squares.Statement.{statement}
+use Rattle.squares.proofs.count_squares.Tie as tie
 
 prefix-counts-requires : tie.Need-prefix-counts-requires
 prefix-counts-requires c κs = search needs
