@@ -101,7 +101,7 @@ fn lowest_period(
 
 // The lowest period to try with each head h, from 0 to the longest word's length: L(h), or 255 where the head is too long for a pair in
 // range or is ruled out. A pair in range is tried exactly where its period is not below its head's entry.
-pub fn lowest_periods(word: &[u8], counts: &[[u8; LETTERS]; ROWS]) -> [u8; ROWS]
+pub(crate) fn lowest_periods(word: &[u8], counts: &[[u8; LETTERS]; ROWS]) -> [u8; ROWS]
     requires { ⌜ Counted (now word) (now counts) ⌝ }
     ensures { λ r. ⌜ r ≡ lowestPeriods (now (word .entry)) ⌝ }
 {
