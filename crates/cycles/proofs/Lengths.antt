@@ -14,7 +14,8 @@ use Rattle.abelian.specs.Refusals.{numberOf, valueOf}
 use Rattle.abelian.specs.declared.Refusal.{Refusal}
 use Rattle.cycles.specs.Text.{ascii, places, spaced, line}
 use Rattle.cycles.specs.Lines.{lengthLine, fullLine, periodLine, squareLine, coverLine, refusalLine}
-use Rattle.cycles.specs.Reports.{kindLine, lineOf, textOf, longestLine, longestReport, longestText}
+use Rattle.report.specs.Places.{longestReport}
+use Rattle.cycles.specs.Reports.{kindLine, lineOf, textOf, longestLine, longestText}
 use Rattle.cycles.proofs.Decimals.{length-decimal, few-places, most-places}
 
 -- ---- a line

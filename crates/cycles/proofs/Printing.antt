@@ -19,7 +19,8 @@ use Rattle.report.proofs.Lengths.{report-places}
 use Rattle.words.proofs.Lists.{length-fill, take-fill}
 use Rattle.cycles.specs.Text.{ascii, line}
 use Rattle.cycles.specs.Lines.{refusalLine, linesUnless, printed}
-use Rattle.cycles.specs.Reports.{textOf, longestReport}
+use Rattle.report.specs.Places.{longestReport}
+use Rattle.cycles.specs.Reports.{textOf}
 use Rattle.cycles.proofs.Decoding.{text-accepted}
 
 -- no refusal has the number of acceptance
@@ -42,7 +43,6 @@ pub record Reported (w after : List ℕ) (n : ℕ) : Type 0 where
 module _ (w : List ℕ) where
   -- the report of an accepted word has few words
   report-short : wordRefusal w false 0 0 ≡ none → length (reportWords w) ≤ longestReport
-  unfolding longestReport
   report-short accepted = report-places w (accepted-length w accepted)
 
   printed-accepted : wordRefusal w false 0 0 ≡ none → printed w ≡ textOf (reportWords w)

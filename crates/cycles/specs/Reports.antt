@@ -1,12 +1,11 @@
 -- The text of a report, line by line from its output words, and the sizes of the slices that hold a report and its text.
-use Prim.Native.Nat.{ℕ, suc, _+_, _*_, _/_, _%_, _^_}
+use Prim.Native.Nat.{ℕ, suc, _*_, _/_, _%_, _^_}
 use mathlib.Core.List.{List, [], _++_}
 use lib.ListN.{getD}
 use lib.Dec.{eqb}
 use Rattle.abelian.specs.Lists.{pick, each}
-use Rattle.abelian.specs.Words.{longest}
 use Rattle.abelian.specs.Periods.{pair}
-use Rattle.abelian.specs.Trackers.{boardSize}
+use Rattle.report.specs.Places.{longestReport}
 use Rattle.cycles.specs.Lines.{lengthLine, fullLine, periodLine, squareLine, coverLine}
 
 -- the line of an output word's kind and parts; none for a kind that no report has
@@ -26,10 +25,6 @@ textOf words = each words lineOf ++ coverLine (eqb (getD words 0 0 % 2 ^ 14) 1)
 -- no line of an output word is longer: a name of 6 letters, two numbers of 5 digits, and what stands between and behind them
 unfoldable pub longestLine : ℕ
 longestLine = 19
-
--- no report has more words: the head, a full period for each length, and all pairs and all squares of the longest word
-unfoldable pub longestReport : ℕ
-longestReport = 1 + longest + boardSize + longest / 2 * (longest / 2)
 
 -- no text of a report is longer
 unfoldable pub longestText : ℕ

@@ -1,11 +1,12 @@
 -- How many words a report has: those of its parts, and no more than any slice of `PLACES` places has room for.
 use mathlib.Core.Path.{_≡_, ap}
-use mathlib.Core.Bool.{_&&_}
+use mathlib.Core.Bool.{Bool, true, false, _&&_}
 use mathlib.Core.List.{List, [], _∷_, _++_, map}
-use Prim.Native.Nat.{ℕ, _+_, _*_, _/_, _≤_}
+use Prim.Native.Nat.{ℕ, _+_, _≤_}
 use native.Mathlib.Omega.{arith}
 use lib.ListN.{length, length-append, length-map}
-use Rattle.abelian.specs.Lists.{upFrom, each}
+use lib.Dec.{leb, leb→le}
+use Rattle.abelian.specs.Lists.{upFrom, put, keep, each}
 use Rattle.abelian.specs.Words.{longest}
 use Rattle.abelian.specs.Periods.{Pair, pair, inRange, pairs, isPeriod, periods}
 use Rattle.abelian.specs.Output.{periodWord, squareWord, fullWord}
@@ -13,7 +14,8 @@ use Rattle.abelian.specs.FullPeriods.{divides, fullPeriods}
 use Rattle.abelian.specs.Squares.{squareStarts, squareWords}
 use Rattle.abelian.specs.Trackers.{boardSize}
 use Rattle.abelian.specs.Calls.{fullWords, periodWords, reportWords}
-use Rattle.abelian.proofs.Lists.{length-upFrom}
+use Rattle.report.specs.Places.{longestReport}
+use Rattle.abelian.proofs.Lists.{all-mem, upFrom-mem}
 use Rattle.board.proofs.Places.{board-length, keep-in-range}
 use Rattle.squares.specs.Marks.{startMarks, squareMarks}
 use Rattle.squares.proofs.Lists.{keep-shorter}
@@ -23,6 +25,25 @@ use Rattle.squares.proofs.Candidates.{fewer-words, candidates-bound}
 each-shorter : (f g : ℕ → List ℕ) (xs : List ℕ) → ((x : ℕ) → length (f x) ≤ length (g x)) → length (each xs f) ≤ length (each xs g)
 each-shorter f g [] h = omega arith
 each-shorter f g (x ∷ xs) h = omega (arith, h x, each-shorter f g xs h, length-append (f x) (each xs f), length-append (g x) (each xs g))
+
+-- what passes two tests passes the first
+both-shorter : (f g : ℕ → Bool) (xs : List ℕ) → length (keep (λ (x : ℕ). f x && g x) xs) ≤ length (keep f xs)
+both-shorter f g [] = omega arith
+both-shorter f g (x ∷ xs) = go (f x) (g x) (both-shorter f g xs)
+  where
+    go : (a b : Bool) → length (keep (λ (y : ℕ). f y && g y) xs) ≤ length (keep f xs)
+        → length (put (a && b) x (keep (λ (y : ℕ). f y && g y) xs)) ≤ length (put a x (keep f xs))
+    go true true h = omega arith
+    go true false h = omega arith
+    go false b h = h
+
+-- no number up to the longest word's length has more than 20 divisors: computed of them all
+abbrev fewDivisors : ℕ → Bool
+fewDivisors n = leb (length (keep (λ (d : ℕ). divides d n) (upFrom 1 n))) 20
+
+few-divisors : (n : ℕ) → n ≤ longest → length (keep (λ (d : ℕ). divides d n) (upFrom 1 n)) ≤ 20
+unfolding longest divides
+few-divisors n h = leb→le _ 20 (all-mem fewDivisors (upFrom 0 241) tt (upFrom-mem 0 241 n (omega arith) (omega arith)))
 
 module _ (w : List ℕ) where
   -- the head's word, and those of the three lists
@@ -34,10 +55,11 @@ module _ (w : List ℕ) where
   unfolding fullWords periodWords
   report-length = omega (arith, parts-length, length-map (fullPeriods w) (fullWord (length w)), length-map (periods w) periodWord)
 
-  -- a word has no more full periods than letters
-  full-few : length (fullPeriods w) ≤ length w
+  -- a word has no more full periods than its length has divisors
+  full-few : length w ≤ longest → length (fullPeriods w) ≤ 20
   unfolding fullPeriods
-  full-few = omega (arith, keep-shorter (λ (p : ℕ). divides p (length w) && isPeriod w (pair 0 p)) (upFrom 1 (length w)), length-upFrom 1 (length w))
+  full-few h =
+      omega (arith, few-divisors (length w) h, both-shorter (λ (p : ℕ). divides p (length w)) (λ (p : ℕ). isPeriod w (pair 0 p)) (upFrom 1 (length w)))
 
   -- no more Abelian periods than a board has entries
   periods-few : length w ≤ longest → length (periods w) ≤ boardSize
@@ -53,5 +75,6 @@ module _ (w : List ℕ) where
       each-shorter (λ (q : ℕ). map (squareWord q) (squareStarts w q)) (startMarks w) (upFrom 1 (length w))
       (λ q. omega (arith, length-map (squareStarts w q) (squareWord q), fewer-words w q))
 
-  pub report-places : length w ≤ longest → length (reportWords w) ≤ 1 + longest + boardSize + (longest / 2) * (longest / 2)
-  report-places h = omega (arith, report-length, full-few, periods-few h, squares-few, candidates-bound w h)
+  pub report-places : length w ≤ longest → length (reportWords w) ≤ longestReport
+  unfolding longestReport
+  report-places h = omega (arith, report-length, full-few h, periods-few h, squares-few, candidates-bound w h)

@@ -4,7 +4,6 @@ mod answers;
 mod parts;
 
 use abelian::BOARD;
-use abelian::LONGEST;
 use abelian::Outcome;
 use abelian::Refusal;
 use abelian::Wrote;
@@ -16,8 +15,11 @@ ghost use mathlib.Core.Path.{_≡_};
 ghost use Rattle.abelian.specs.Answers.{answeredWrote};
 ghost use Rattle.abelian.specs.Calls.{reporting};
 
+// The most full periods of a word: each divides the word's length, and no number up to 240 has more divisors than 240.
+const FULL_PERIODS: usize = 20;
+
 // Places enough for the report of every word: one for the head, and as many as there can be full periods, Abelian periods and squares.
-pub const PLACES: usize = 1 + LONGEST + BOARD + CANDIDATES;
+pub const PLACES: usize = 1 + FULL_PERIODS + BOARD + CANDIDATES;
 
 // Writes the report of the word. A slice of `PLACES` places is never too short, so that the report is counted only for a shorter one.
 pub fn report(word: &[u8], out: &mut [u32]) -> Wrote

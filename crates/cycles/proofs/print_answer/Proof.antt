@@ -5,7 +5,8 @@ use lib.Seq.{length-take-le}
 use borrow.Author.Needs.{needs}
 use Rattle.abelian.specs.Words.{longest}
 use Rattle.abelian.specs.Trackers.{boardSize}
-use Rattle.cycles.specs.Reports.{longestLine, longestReport, longestText}
+use Rattle.report.specs.Places.{longestReport}
+use Rattle.cycles.specs.Reports.{longestLine, longestText}
 use Rattle.cycles.proofs.Writing.{written-within}
 use Rattle.cycles.proofs.print_answer.Statement.{statement}
 use Rattle.cycles.proofs.print_answer.Tie as tie

@@ -17,6 +17,7 @@ use Rattle.abelian.specs.Calls.{reportWords, reporting}
 use Rattle.abelian.specs.declared.Refusal.the-variants.{SliceTooShort}
 use Rattle.words.proofs.Refusals.{accepted-none, refused-some, accepted-length, accepted-letters}
 use Rattle.words.proofs.Listings.{listing-refused, listing-short, listing-written}
+use Rattle.report.specs.Places.{longestReport}
 use Rattle.report.proofs.Lengths.{report-places}
 use Rattle.report.proofs.report.Statement.{statement}
 use Rattle.report.proofs.report.Tie as tie
@@ -37,7 +38,7 @@ module _ (c : tie.After-enum-told) where
 
 -- past both tests the slice has places enough
 fits : (c : tie.Joined1) → length (reportWords (w (c .before))) ≤ length (out (c .before))
-unfolding longest boardSize
+unfolding longestReport longest boardSize
 fits c =
     let told = c .before in
     ⊎-elim (λ counted. omega (arith, counted .1 .ensures, counted .2 .left))

@@ -12,7 +12,7 @@ use Rattle.abelian.specs.Trackers.{boardSize}
 use Rattle.abelian.specs.Answers.{answeredWrote}
 use Rattle.abelian.specs.declared.Wrote.{Wrote}
 use Rattle.cycles.specs.Lines.{refusalLine, printed}
-use Rattle.cycles.specs.Reports.{longestReport}
+use Rattle.report.specs.Places.{longestReport}
 use Rattle.cycles.proofs.Lengths.{text-short, refusal-short}
 use Rattle.cycles.proofs.Printing.{Reported, words-reported, refusal-reported}
 use Rattle.cycles.proofs.answer.write_answer.Statement.{statement}

@@ -1,15 +1,16 @@
 -- `report::parts::words_needed` meets its contract: the sum is the number of the report's words, which are few. Assumes nothing.
-use Prim.Native.Nat.{_+_, _*_, _/_, _≤_}
+use Prim.Native.Nat.{_+_, _≤_}
 use native.Mathlib.Omega.{arith}
 use borrow.Author.Needs.{needs}
 use Rattle.abelian.specs.Words.{longest}
 use Rattle.abelian.specs.Trackers.{boardSize}
+use Rattle.report.specs.Places.{longestReport}
 use Rattle.report.proofs.Lengths.{report-length, report-places}
 use Rattle.report.proofs.parts.words_needed.Statement.{statement}
 use Rattle.report.proofs.parts.words_needed.Tie as tie
 
 few : (c : tie.After-count-squares) → 1 + c .before .before .count-full .result + c .before .count-periods .result + c .count-squares .result
-    ≤ 1 + longest + boardSize + (longest / 2) * (longest / 2)
+    ≤ longestReport
 few c =
     let start = c .before .before .before .before in
     omega (arith, report-length (start .args .word .now), report-places (start .args .word .now) (start .pre .1))
@@ -24,15 +25,15 @@ count-squares-requires : tie.Need-count-squares-requires
 count-squares-requires c κs = search needs
 
 add-result : tie.Need-add-result
-unfolding longest boardSize
+unfolding longestReport longest boardSize
 add-result c = omega (arith, few c)
 
 add-result-2 : tie.Need-add-result-2
-unfolding longest boardSize
+unfolding longestReport longest boardSize
 add-result-2 c = omega (arith, few c)
 
 add-result-3 : tie.Need-add-result-3
-unfolding longest boardSize
+unfolding longestReport longest boardSize
 add-result-3 c = omega (arith, few c)
 
 returns : tie.Need-returns

@@ -4,7 +4,6 @@ use mathlib.Core.Bool.{false}
 use mathlib.Core.List.{List}
 use Prim.Native.Nat.{ℕ}
 use native.Mathlib.Omega.{arith}
-use Rattle.abelian.specs.Words.{longest}
 use Rattle.abelian.specs.Trackers.{damaged}
 use Rattle.abelian.specs.declared.Tracker.{Tracker}
 use Rattle.tracker.specs.Fields.{ofFields}

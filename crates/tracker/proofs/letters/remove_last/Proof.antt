@@ -1,5 +1,4 @@
 -- `tracker::letters::remove_last` meets its contract. Assumes nothing.
-use native.Mathlib.Omega.{arith}
 use Rattle.abelian.specs.Words.{longest}
 use Rattle.tracker.proofs.Steps.{letter-gone}
 use borrow.Author.Needs.{needs}
