@@ -40,8 +40,8 @@ extern "C" {
 #define LUFF_MOST_FULL 20
 #define LUFF_MOST_REPORT 28941
 
-/* No call needs more stack than so many bytes. examples/c/stack_use.c measures it; a replay comes nearest. */
-#define LUFF_STACK 131072
+/* No call needs more stack than so many bytes. examples/c/stack_use.c has a limit for each call; a report has the greatest. */
+#define LUFF_STACK 49152
 
 /* What a call returns: 0, or a refusal's number. A word is refused in the order 1, 2, 7, 3, a tracker in the order 6, 2, 4, 5, 3. */
 enum luff_refusal {

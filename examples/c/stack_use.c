@@ -1,106 +1,223 @@
 /*
- * How much stack the calls need: each is made on a word of the greatest length by a thread whose stack was painted before, and what is
- * no longer painted was used. Prints whether that is within LUFF_STACK; with an argument it prints the bytes.
+ * How much stack each call takes, held against a limit. A call is made on a stack of its own that was painted before: the lowest byte that
+ * is no longer painted is the lowest that was used, and from that comes off what is used there without a call. Each call is made in
+ * several ways, on words of the greatest length and on trackers that hold as many letters as the call can take, accepted and refused; the
+ * one that takes most counts. A tracker is lent by the caller and is not part of it. Prints for each call whether it is within its limit;
+ * with an argument it prints the bytes too. The exit status is 1 where a call is above its limit.
  */
 #define _XOPEN_SOURCE 600
-#include <pthread.h>
 #include <stdio.h>
 #include <stdlib.h>
 #include <string.h>
+#include <ucontext.h>
 
 #include "luffbutton.h"
 
 #define STACK (1u << 20)
 #define PAINT 0xa5
+#define NOT_A_LETTER '?'
 
+/* The words: each is one of these blocks of letters, over and over. */
+static const char *const blocks[] = {"a", "a", "ab", "abaababa", "abcdefghijklmnop"};
 static uint8_t word[LUFF_LONGEST];
+
+/* What the calls are made with: how many places, how many letters the tracker holds, and whether the byte added is a letter. */
+struct way {
+    size_t places;
+    size_t held;
+    uint8_t letter;
+};
+static const struct way ways[] = {
+    {LUFF_MOST_REPORT, LUFF_LONGEST - 1, 'a'},
+    {LUFF_MOST_REPORT - 1, LUFF_LONGEST, 'a'},
+    {LUFF_MOST_REPORT, LUFF_LONGEST - 1, 'b'},
+    {0, LUFF_LONGEST - 1, NOT_A_LETTER},
+    {0, 0, NOT_A_LETTER},
+};
+static struct way way;
+
 static uint32_t out[LUFF_MOST_REPORT];
 static struct luff_tracker tracker;
-static const char *const names[] = {
-    "none", "judge", "list_plain", "list_skipping", "list_full", "list_full_scaled", "list_squares", "find_cover",
-    "report", "fresh", "add", "take_back", "clear", "list", "replay",
+
+/* The calls' numbers, which are of no interest here. */
+static size_t a, b, c, d;
+static uint8_t letter;
+
+static void none(void)
+{
+}
+
+static void judge(void)
+{
+    struct luff_head head = {3};
+    struct luff_period period = {8};
+    luff_judge(word, LUFF_LONGEST, head, period, &a, &b, &c, &letter);
+}
+
+static void list_plain(void)
+{
+    luff_list_plain(word, LUFF_LONGEST, out, way.places, &a, &b, &c);
+}
+
+static void list_skipping(void)
+{
+    luff_list_skipping(word, LUFF_LONGEST, out, way.places, &a, &b, &c);
+}
+
+static void list_full(void)
+{
+    luff_list_full(word, LUFF_LONGEST, out, way.places, &a, &b);
+}
+
+static void list_full_scaled(void)
+{
+    luff_list_full_scaled(word, LUFF_LONGEST, out, way.places, &a, &b, &c, &d);
+}
+
+static void list_squares(void)
+{
+    luff_list_squares(word, LUFF_LONGEST, out, way.places, &a, &b);
+}
+
+static void find_cover(void)
+{
+    luff_find_cover(word, LUFF_LONGEST, &a, &b, &c);
+}
+
+static void report(void)
+{
+    luff_report(word, LUFF_LONGEST, out, way.places, &a, &b);
+}
+
+static void fresh(void)
+{
+    luff_fresh(&tracker);
+}
+
+static void add(void)
+{
+    luff_add(&tracker, way.letter, &a);
+}
+
+static void take_back(void)
+{
+    luff_take_back(&tracker, &a);
+}
+
+static void clear(void)
+{
+    luff_clear(&tracker);
+}
+
+static void list(void)
+{
+    luff_list(&tracker, out, way.places, &a, &b);
+}
+
+/* The letters of the word, then a take-back, a byte that may be refused, a letter and one more, which is refused. */
+static void replay(void)
+{
+    static uint8_t calls[LUFF_LONGEST + 4];
+    memcpy(calls, word, LUFF_LONGEST);
+    calls[LUFF_LONGEST] = LUFF_CALL_TAKE_BACK;
+    calls[LUFF_LONGEST + 1] = way.letter;
+    calls[LUFF_LONGEST + 2] = word[0];
+    calls[LUFF_LONGEST + 3] = word[0];
+    luff_replay(&tracker, calls, sizeof calls, out, way.places, &a, &b, &c);
+}
+
+/* Each call, and the stack that it may take. */
+static const struct {
+    const char *name;
+    void (*make)(void);
+    size_t limit;
+} calls[] = {
+    {"judge", judge, 4096},
+    {"list_plain", list_plain, 24576},
+    {"list_skipping", list_skipping, 28672},
+    {"list_full", list_full, 4096},
+    {"list_full_scaled", list_full_scaled, 4096},
+    {"list_squares", list_squares, 20480},
+    {"find_cover", find_cover, 4096},
+    {"report", report, LUFF_STACK},
+    {"fresh", fresh, 12288},
+    {"add", add, 12288},
+    {"take_back", take_back, 12288},
+    {"clear", clear, 12288},
+    {"list", list, 12288},
+    {"replay", replay, 12288},
 };
 
-/* Makes the call of this number. */
-static void make(size_t call)
+/* The bytes used of a stack of its own on which the function runs. */
+static size_t used(void (*make)(void), uint8_t *stack)
 {
-    size_t a = 0, b = 0, c = 0, d = 0;
-    uint8_t letter = 0;
-    struct luff_head head = {0};
-    struct luff_period period = {8};
-    switch (call) {
-    case 1: luff_judge(word, LUFF_LONGEST, head, period, &a, &b, &c, &letter); break;
-    case 2: luff_list_plain(word, LUFF_LONGEST, out, LUFF_MOST_REPORT, &a, &b, &c); break;
-    case 3: luff_list_skipping(word, LUFF_LONGEST, out, LUFF_MOST_REPORT, &a, &b, &c); break;
-    case 4: luff_list_full(word, LUFF_LONGEST, out, LUFF_MOST_REPORT, &a, &b); break;
-    case 5: luff_list_full_scaled(word, LUFF_LONGEST, out, LUFF_MOST_REPORT, &a, &b, &c, &d); break;
-    case 6: luff_list_squares(word, LUFF_LONGEST, out, LUFF_MOST_REPORT, &a, &b); break;
-    case 7: luff_find_cover(word, LUFF_LONGEST, &a, &b, &c); break;
-    case 8: luff_report(word, LUFF_LONGEST, out, LUFF_MOST_REPORT, &a, &b); break;
-    case 9: luff_fresh(&tracker); break;
-    case 10: luff_add(&tracker, word[0], &a); break;
-    case 11: luff_take_back(&tracker, &a); break;
-    case 12: luff_clear(&tracker); break;
-    case 13: luff_list(&tracker, out, LUFF_MOST_REPORT, &a, &b); break;
-    case 14: luff_replay(&tracker, word, LUFF_LONGEST, out, LUFF_MOST_REPORT, &a, &b, &c); break;
-    default: break;
-    }
-}
-
-static void *make_by_thread(void *call)
-{
-    make(*(const size_t *)call);
-    return NULL;
-}
-
-/* The bytes of the stack that a thread used which made the call, with what the thread itself needs. */
-static size_t used(size_t call, uint8_t *stack)
-{
-    pthread_attr_t attributes;
-    pthread_t thread;
+    ucontext_t here, there;
     size_t untouched = 0;
     memset(stack, PAINT, STACK);
-    if (pthread_attr_init(&attributes) != 0 || pthread_attr_setstack(&attributes, stack, STACK) != 0 ||
-        pthread_create(&thread, &attributes, make_by_thread, &call) != 0 || pthread_join(thread, NULL) != 0) {
+    if (getcontext(&there) != 0) {
         exit(1);
     }
-    pthread_attr_destroy(&attributes);
+    there.uc_stack.ss_sp = stack;
+    there.uc_stack.ss_size = STACK;
+    there.uc_link = &here;
+    makecontext(&there, make, 0);
+    if (swapcontext(&here, &there) != 0) {
+        exit(1);
+    }
     while (untouched < STACK && stack[untouched] == PAINT) {
         untouched++;
     }
     return STACK - untouched;
 }
 
-/* The tracker holds all letters of the word but the last. */
-static void fill_tracker(void)
+/* The word is the block over and over, and the tracker holds the first letters of it. */
+static void prepare(const char *block)
 {
     size_t value = 0;
+    for (size_t i = 0; i < LUFF_LONGEST; i++) {
+        word[i] = (uint8_t)block[i % strlen(block)];
+    }
     luff_fresh(&tracker);
-    for (size_t i = 0; i + 1 < LUFF_LONGEST; i++) {
+    for (size_t i = 0; i < way.held; i++) {
         luff_add(&tracker, word[i], &value);
     }
 }
 
+/*
+ * The most that a call takes, over all words and ways, beyond what the stack has on it by itself. The first word does not count: where the
+ * program is linked with a shared C library, a function of that is looked up at its first call, and that takes stack too.
+ */
+static size_t most_used(void (*make)(void), uint8_t *stack)
+{
+    size_t most = 0, alone = used(none, stack);
+    for (size_t i = 0; i < sizeof blocks / sizeof blocks[0]; i++) {
+        for (size_t j = 0; j < sizeof ways / sizeof ways[0]; j++) {
+            way = ways[j];
+            prepare(blocks[i]);
+            size_t bytes = used(make, stack) - alone;
+            most = i > 0 && bytes > most ? bytes : most;
+        }
+    }
+    return most;
+}
+
 int main(int count, char **arguments)
 {
-    void *stack = NULL;
+    int status = 0;
+    uint8_t *stack = malloc(STACK);
     (void)arguments;
-    if (posix_memalign(&stack, 4096, STACK) != 0) {
+    if (stack == NULL) {
         return 1;
     }
-    for (size_t i = 0; i < LUFF_LONGEST; i++) {
-        word[i] = (uint8_t)"abaababa"[i % 8];
-    }
-    size_t thread_alone = used(0, stack);
-    for (size_t call = 1; call < sizeof names / sizeof names[0]; call++) {
-        fill_tracker();
-        size_t bytes = used(call, stack) - thread_alone;
-        printf("%s: %s LUFF_STACK", names[call], bytes <= LUFF_STACK ? "within" : "above");
+    for (size_t i = 0; i < sizeof calls / sizeof calls[0]; i++) {
+        size_t bytes = most_used(calls[i].make, stack);
+        printf("%s: %s %zu bytes", calls[i].name, bytes <= calls[i].limit ? "within" : "above", calls[i].limit);
         if (count > 1) {
-            printf(", %zu bytes", bytes);
+            printf(", takes %zu", bytes);
         }
         printf("\n");
+        status = bytes <= calls[i].limit ? status : 1;
     }
     free(stack);
-    return 0;
+    return status;
 }
