@@ -1,20 +1,70 @@
 /*
- * Luffbutton: cycles in event words. Abelian periods, full periods, Abelian squares and covers of a word, and a tracker that knows the
- * periods of a word while its letters come and go. Terms and numbers are those of document 01.
+ * Luffbutton: cycles in event words. It finds the Abelian periods, the full periods, the Abelian squares and the covers of a word, and has
+ * a tracker that knows the periods of a word while letters join its end and are taken back.
  *
- * Link with libcapi.a, which `rt staticlib capi` writes: cc program.c libcapi.a. The archive is for x86-64 Linux (System V calls,
- * 64-bit size_t). It needs memcpy, memmove and memset of the C library and up to LUFF_STACK bytes of stack. It allocates nothing and
- * keeps nothing between calls, so that calls on different trackers may run at the same time.
+ * HOW TO LINK. `bin/install PREFIX` puts this header, lib/libluffbutton.a and lib/pkgconfig/luffbutton.pc under PREFIX. With
+ * PREFIX/lib/pkgconfig in PKG_CONFIG_PATH:
  *
- * A word is n bytes, each a letter: LUFF_FIRST_LETTER and the bytes behind it, LUFF_LETTERS in all. A word has LUFF_LONGEST letters
- * at most. Positions count from 1. Every call takes any bytes, any length and any number of places; what it cannot do it refuses.
+ *     cc program.c $(pkg-config --cflags --libs luffbutton)
  *
- * What a caller owes: no pointer is NULL, also not that of an empty word or of no places; a pointer leads to as many bytes or places as
- * are said, aligned as its type asks; and nothing that a call may write (places, numbers, a tracker) overlaps anything else that is
- * passed to the same call, so two numbers are two variables. What stands in places and numbers before a call does not matter.
+ * The archive is for x86-64 Linux (System V calls, 64-bit size_t). It has fourteen functions that can be linked, all with the prefix luff_,
+ * and needs three of the C library: memcpy, memmove and memset.
  *
- * Every call returns 0 where it is accepted, or the number of its refusal, and then `value` is the refusal's value (0 where it has
- * none), all other numbers are 0, and neither the places nor a tracker are changed. An accepted call sets `value` to 0.
+ * TERMS. A word is n bytes, each a letter: LUFF_FIRST_LETTER and the bytes behind it, LUFF_LETTERS in all, a to p. It has LUFF_LONGEST
+ * letters at most and may have none. Positions count from 1. The counts of some letters that stand side by side are the number of a's among
+ * them, the number of b's, and so on to p. They are contained in others when no count of theirs exceeds the others' count of the same
+ * letter, and they are fewer in all.
+ *
+ * A pair (h, p), the length of a head and the length of a period, is in range for n when p >= 1, h < p and h + p <= n. A pair in range is
+ * an Abelian period of the word when the word is a head of h letters, one or more whole blocks of p letters with equal counts, and a tail
+ * of the (n - h) mod p letters that are left, head and tail both contained in a block. One block is enough. Of abaababa, (1, 2) is one:
+ * a, then ba, ab, ab, then a. Lists of pairs go by rising p, and for one p by rising h.
+ *
+ * A full period is an Abelian period with h = 0 and p dividing n; p = n is one of every word but the empty one.
+ *
+ * A head length h is ruled out when some letter's count in the first h letters, doubled, exceeds its count in the word. Of the others, L(h)
+ * is the largest of: h + 1; for each letter that stands in the head, c times, the position of its occurrence number 2c, less h; and half
+ * of G + 1, rounded down, where G is the greatest distance between two neighbouring occurrences of one letter, both after position h, or
+ * 0. No Abelian period has a head that is ruled out, or a p below L(h).
+ *
+ * Let g be the greatest common divisor of the letters' counts in the word, and s = n / g. A position k from 0 to n is scaled when s divides
+ * k and each letter's count in the first k letters is k / s times its count in the word divided by g. T is the greatest distance between
+ * neighbouring scaled positions, divided by s. Of the empty word, s and T are 0.
+ *
+ * An Abelian square is a start i and a half length q >= 1 with i + 2q - 1 <= n and equal counts of the q letters from i on and of the q
+ * letters behind them. A cover is a set of one or more intervals of the word, none the whole word, with equal counts, that together hold
+ * every position; a word of fewer than 2 letters has none.
+ *
+ * The ended length of a pair is the smallest m from h + p to n at which the pair is no Abelian period of the first m letters, or 0 where
+ * there is none. A pair that has ended does not become an Abelian period again by more letters.
+ *
+ * ANSWERS. Each call takes any bytes, any length and any number of places, and returns a struct of numbers. `refusal` is 0 where the call
+ * is accepted (luff_tracker_fresh, which returns nothing, always is), else one of enum luff_refusal; `value` is the refusal's value, 0
+ * where it has none and where the call is accepted. Of a refused call all other numbers are 0, and neither the places nor the tracker are
+ * changed. There is one exception: a luff_tracker_replay whose list is refused has made its calls, so that the tracker is changed, and
+ * `refused` has their number.
+ *
+ * WHAT A CALLER OWES. No pointer is NULL, also not that of an empty word or of no places: pass any address of the program's, such as that
+ * of a variable of the pointer's type. A pointer leads to as many bytes or places as are said, aligned as its type asks. What a call may
+ * write, which is the places and, but for a list, the tracker, overlaps nothing else that is passed to the same call. What stands in the
+ * places before a call does not matter.
+ *
+ * AT THE SAME TIME. The library allocates nothing, keeps nothing between calls and takes no lock. Calls may run at the same time where
+ * none writes what another reads or writes: calls on different places and trackers, and also several lists of one tracker, since a list
+ * only reads it. An interrupt or a signal handler may make any call, on data that the interrupted program is not using in a call; it needs
+ * the stack given below, and the processor's SSE registers, as other code of its platform does.
+ *
+ * STACK AND TIME. The bytes of stack that a call takes at most, beyond the word, the places and the tracker that it is lent, have a
+ * macro each below; examples/c/stack_use.c measures them. How the time grew from n = 120 to n = 240 where it was measured
+ * (docs/PERFORMANCE.md), as n to the power:
+ *
+ *     luff_list_plain, luff_list_skipping     1.8 to 2.2
+ *     luff_list_squares, luff_report          1.8 to 1.9
+ *     luff_tracker_add                        1.6 to 1.8, n being the letters held
+ *     luff_list_full_scaled                   0.4 to 1.0
+ *
+ * A luff_tracker_replay takes a time that grows with the number of its calls, of which each takes at most as long as an add to 239 letters;
+ * there is no bound on that number. luff_tracker_fresh and luff_tracker_clear write a whole tracker, whatever it holds.
  */
 #ifndef LUFFBUTTON_H
 #define LUFFBUTTON_H
@@ -23,8 +73,14 @@
 #include <stdint.h>
 
 #ifdef __cplusplus
+#define LUFF_RESTRICT __restrict
 extern "C" {
+#else
+#define LUFF_RESTRICT restrict
 #endif
+
+/* The version of this interface. It rises with each change of an answer or of a layout. */
+#define LUFF_VERSION 2
 
 /* The byte of the first letter, a, and how many letters there are. */
 #define LUFF_FIRST_LETTER 97
@@ -34,16 +90,30 @@ extern "C" {
 #define LUFF_LONGEST 240
 #define LUFF_BOARD 14520
 
-/* The most words that a list of a word can have: periods, squares, full periods, a report. */
+/*
+ * The most words that a list can have: periods, 58,080 bytes; squares, 57,600 bytes; full periods, 80 bytes; a report, 115,764 bytes, which
+ * is one word and then the other three. No list of this many places is refused as too short.
+ */
 #define LUFF_MOST_PERIODS 14520
 #define LUFF_MOST_SQUARES 14400
 #define LUFF_MOST_FULL 20
 #define LUFF_MOST_REPORT 28941
 
-/* No call needs more stack than so many bytes. examples/c/stack_use.c has a limit for each call; a report has the greatest. */
-#define LUFF_STACK 49152
+/* The most stack that each call takes, in bytes, and that no call exceeds. LUFF_STACK_TRACKER is for each of a tracker's calls. */
+#define LUFF_STACK_JUDGE 4096
+#define LUFF_STACK_LIST_PLAIN 24576
+#define LUFF_STACK_LIST_SKIPPING 28672
+#define LUFF_STACK_LIST_FULL 4096
+#define LUFF_STACK_LIST_FULL_SCALED 4096
+#define LUFF_STACK_LIST_SQUARES 20480
+#define LUFF_STACK_FIND_COVER 4096
+#define LUFF_STACK_REPORT 49152
+#define LUFF_STACK_TRACKER 12288
+#define LUFF_STACK LUFF_STACK_REPORT
 
-/* What a call returns: 0, or a refusal's number. A word is refused in the order 1, 2, 7, 3, a tracker in the order 6, 2, 4, 5, 3. */
+/*
+ * What `refusal` is. Where several apply, the first counts: of a word in the order 1, 2, 7, 3, of a tracker in the order 6, 2, 4, 5, 3.
+ */
 enum luff_refusal {
     LUFF_ACCEPTED = 0,
     /* The word has more than LUFF_LONGEST letters. */
@@ -85,54 +155,107 @@ struct luff_period {
     size_t letters;
 };
 
-/*
- * Judges the pair (h, p), which is in range where p >= 1, h < p and h + p <= n. It is an Abelian period when the word is a head of h
- * letters, one or more whole blocks of p letters with equal counts of every letter, and a tail, head and tail both contained in a block.
- * yes: 1 where it is one. Else 0, with the first block that breaks the rule against block 1 (0 is the head, and the tail comes behind
- * the last whole block) and in it the first letter, in letter order, as its byte. Refusals 1, 2, 7.
- */
-size_t luff_judge(const uint8_t *word, size_t n, struct luff_head head, struct luff_period period, size_t *value, size_t *yes,
-                  size_t *block, uint8_t *letter);
+/* The answer of a call that has no numbers of its own. */
+struct luff_outcome {
+    size_t refusal;
+    size_t value;
+};
+
+/* The answer of a list. written: how many words it has written. */
+struct luff_wrote {
+    size_t refusal;
+    size_t value;
+    size_t written;
+};
+
+/* The answer of a lister of periods. trials: how many pairs it has tried. */
+struct luff_listed {
+    size_t refusal;
+    size_t value;
+    size_t written;
+    size_t trials;
+};
+
+/* The answer of the list by scaled positions, with s and T. */
+struct luff_scaled {
+    size_t refusal;
+    size_t value;
+    size_t written;
+    size_t s;
+    size_t t;
+};
 
 /*
- * The list calls write their words to the first of `places` places at `out` and leave the places behind them as they are.
- * written: how many words. Refusals 1, 2, 3.
+ * The judge's answer. yes: 1 where the pair is an Abelian period. Else 0, and then block is the first that breaks the rule against block 1
+ * (0 is the head, and the tail comes behind the last whole block), and letter the first in it, in letter order, as its byte: of a whole
+ * block the first with another count, of head and tail the first with a larger one.
+ */
+struct luff_verdict {
+    size_t refusal;
+    size_t value;
+    size_t yes;
+    size_t block;
+    size_t letter;
+};
+
+/*
+ * The answer of the search for a cover. yes: 1 where there is one, and then length m, m < n and 2m >= n, is the smallest at which the first
+ * m and the last m letters have equal counts. 0 where no set of intervals is a cover; length is 0 then.
+ */
+struct luff_cover {
+    size_t refusal;
+    size_t value;
+    size_t yes;
+    size_t length;
+};
+
+/* A replay's answer. refused: how many of its calls were refused, also where the list is. The other three are the list's. */
+struct luff_replayed {
+    size_t refusal;
+    size_t value;
+    size_t refused;
+    size_t written;
+};
+
+/* Judges the pair (head, period) of a word. Refusals 1, 2, 7. */
+struct luff_verdict luff_judge(const uint8_t *word, size_t n, struct luff_head head, struct luff_period period);
+
+/*
+ * The list calls write their words to the first of `places` places at `out` and leave the places behind them as they are. Refusals 1, 2, 3.
  */
 
-/* All Abelian periods, by p and then h. trials: the pairs in range, which are all tried. */
-size_t luff_list_plain(const uint8_t *word, size_t n, uint32_t *out, size_t places, size_t *value, size_t *written, size_t *trials);
+/* All Abelian periods. trials: the pairs in range, which are all tried. */
+struct luff_listed luff_list_plain(const uint8_t *LUFF_RESTRICT word, size_t n, uint32_t *LUFF_RESTRICT out, size_t places);
 
 /* The same list. trials: the pairs in range whose head is not ruled out and whose p is at least L(h), which alone are tried. */
-size_t luff_list_skipping(const uint8_t *word, size_t n, uint32_t *out, size_t places, size_t *value, size_t *written, size_t *trials);
+struct luff_listed luff_list_skipping(const uint8_t *LUFF_RESTRICT word, size_t n, uint32_t *LUFF_RESTRICT out, size_t places);
 
-/* The full periods, which are the Abelian periods with h = 0 and p dividing n, p = n among them, by rising p. */
-size_t luff_list_full(const uint8_t *word, size_t n, uint32_t *out, size_t places, size_t *value, size_t *written);
+/* The full periods, by rising p. */
+struct luff_wrote luff_list_full(const uint8_t *LUFF_RESTRICT word, size_t n, uint32_t *LUFF_RESTRICT out, size_t places);
 
-/*
- * The same list by scaled positions. s: n divided by the greatest common divisor of the letter counts. t: the greatest distance between
- * neighbouring scaled positions, divided by s. Both are 0 for the empty word.
- */
-size_t luff_list_full_scaled(const uint8_t *word, size_t n, uint32_t *out, size_t places, size_t *value, size_t *written, size_t *s,
-                             size_t *t);
+/* The same list by scaled positions, with s and T. */
+struct luff_scaled luff_list_full_scaled(const uint8_t *LUFF_RESTRICT word, size_t n, uint32_t *LUFF_RESTRICT out, size_t places);
 
-/* All Abelian squares: starts i and half lengths q >= 1 with equal counts in the two halves, by q and then i. */
-size_t luff_list_squares(const uint8_t *word, size_t n, uint32_t *out, size_t places, size_t *value, size_t *written);
-
-/* A report: one word of LUFF_KIND_REPORT, then the full periods, the periods and the squares. */
-size_t luff_report(const uint8_t *word, size_t n, uint32_t *out, size_t places, size_t *value, size_t *written);
+/* All Abelian squares, by rising half length, and for one half length by rising start. */
+struct luff_wrote luff_list_squares(const uint8_t *LUFF_RESTRICT word, size_t n, uint32_t *LUFF_RESTRICT out, size_t places);
 
 /*
- * Looks for a cover: intervals, none the whole word, with equal counts of every letter, that together hold every position.
- * yes: 1 where there is one, and then length m, m < n and 2m >= n, is the smallest at which the first m and the last m letters have
- * equal counts. 0 where no set of intervals is a cover; length is 0 then. Refusals 1, 2.
+ * A report: one word of LUFF_KIND_REPORT, then the full periods, the periods and the squares. With fewer than LUFF_MOST_REPORT places the
+ * whole is counted before it is written, which takes time; with as many or more that is spared.
  */
-size_t luff_find_cover(const uint8_t *word, size_t n, size_t *value, size_t *yes, size_t *length);
+struct luff_wrote luff_report(const uint8_t *LUFF_RESTRICT word, size_t n, uint32_t *LUFF_RESTRICT out, size_t places);
+
+/* Looks for a cover. Refusals 1, 2. */
+struct luff_cover luff_find_cover(const uint8_t *word, size_t n);
 
 /*
  * A tracker: a word that grows and shrinks at its end. bytes holds the letters and 0 beyond the length. board has an entry for each pair
- * in range for LUFF_LONGEST, by p and then h: the ended length, which is the smallest m from h + p to the length at which (h, p) is no
- * Abelian period of the first m letters, or 0. Make one by luff_fresh or luff_replay and change it by its calls alone, given below; it
- * may be copied and stored as it is.
+ * in range for LUFF_LONGEST, by p and then h: the ended length of the pair. It takes 14,768 bytes. Make one by luff_tracker_fresh or
+ * luff_tracker_replay and change it by its calls alone, given below.
+ *
+ * A copy of it is a tracker too. But what is kept for long or sent elsewhere should be the letters (bytes, as many as length says), and the
+ * tracker be made from them by luff_tracker_replay: a call checks length and letters and not the board, so that a byte of the board that
+ * was changed in storage is not seen and lists are wrong from then on; and size_t has another width and order of bytes on other machines.
  */
 struct luff_tracker {
     size_t length;
@@ -140,58 +263,67 @@ struct luff_tracker {
     uint8_t board[LUFF_BOARD];
 };
 
-/* In a list of calls for luff_replay: the byte that takes back the last letter, and the byte that clears. */
+/* In a list of calls for luff_tracker_replay: the byte that takes back the last letter, and the byte that clears. */
 #define LUFF_CALL_TAKE_BACK 45
 #define LUFF_CALL_CLEAR 33
 
-/* The tracker's calls by fields. Callers use those below, which take the tracker whole, and are not changed when a field is added. */
-void luff_fresh_fields(size_t *length, uint8_t *bytes, uint8_t *board);
-size_t luff_add_fields(size_t *length, uint8_t *bytes, uint8_t *board, uint8_t letter, size_t *value);
-size_t luff_take_back_fields(size_t *length, uint8_t *bytes, uint8_t *board, size_t *value);
-size_t luff_clear_fields(size_t *length, uint8_t *bytes, uint8_t *board);
-size_t luff_list_fields(size_t *length, uint8_t *bytes, uint8_t *board, uint32_t *out, size_t places, size_t *value, size_t *written);
-size_t luff_replay_fields(const uint8_t *calls, size_t n, uint32_t *out, size_t places, size_t *length, uint8_t *bytes, uint8_t *board,
-                          size_t *refused, size_t *value, size_t *written);
+/*
+ * The tracker's calls by its fields, for languages that cannot use the inline functions below: length leads to one number, bytes to
+ * LUFF_LONGEST bytes and board to LUFF_BOARD. A program in C uses the functions below, which take the tracker whole.
+ */
+void luff_tracker_fresh_fields(size_t *LUFF_RESTRICT length, uint8_t *LUFF_RESTRICT bytes, uint8_t *LUFF_RESTRICT board);
+struct luff_outcome luff_tracker_add_fields(size_t *LUFF_RESTRICT length, uint8_t *LUFF_RESTRICT bytes, uint8_t *LUFF_RESTRICT board,
+                                            uint8_t letter);
+struct luff_outcome luff_tracker_take_back_fields(size_t *LUFF_RESTRICT length, uint8_t *LUFF_RESTRICT bytes,
+                                                  uint8_t *LUFF_RESTRICT board);
+struct luff_outcome luff_tracker_clear_fields(size_t *LUFF_RESTRICT length, uint8_t *LUFF_RESTRICT bytes, uint8_t *LUFF_RESTRICT board);
+struct luff_wrote luff_tracker_list_fields(size_t length, const uint8_t *LUFF_RESTRICT bytes, const uint8_t *LUFF_RESTRICT board,
+                                           uint32_t *LUFF_RESTRICT out, size_t places);
+struct luff_replayed luff_tracker_replay_fields(const uint8_t *LUFF_RESTRICT calls, size_t n, uint32_t *LUFF_RESTRICT out, size_t places,
+                                                size_t *LUFF_RESTRICT length, uint8_t *LUFF_RESTRICT bytes,
+                                                uint8_t *LUFF_RESTRICT board);
 
 /* Makes the tracker fresh, all zero, whatever stood there: it holds the empty word. */
-static inline void luff_fresh(struct luff_tracker *tracker)
+static inline void luff_tracker_fresh(struct luff_tracker *tracker)
 {
-    luff_fresh_fields(&tracker->length, tracker->bytes, tracker->board);
+    luff_tracker_fresh_fields(&tracker->length, tracker->bytes, tracker->board);
 }
 
-/* The letter joins the end, and each live pair that is then no Abelian period is ended. Refusals 6, 2, 4. */
-static inline size_t luff_add(struct luff_tracker *tracker, uint8_t letter, size_t *value)
+/* The letter joins the end, and each pair with entry 0 that is then in range and no Abelian period is ended. Refusals 6, 2, 4. */
+static inline struct luff_outcome luff_tracker_add(struct luff_tracker *tracker, uint8_t letter)
 {
-    return luff_add_fields(&tracker->length, tracker->bytes, tracker->board, letter, value);
+    return luff_tracker_add_fields(&tracker->length, tracker->bytes, tracker->board, letter);
 }
 
-/* The last letter goes, and each pair that it had ended is live again. Refusals 6, 5. */
-static inline size_t luff_take_back(struct luff_tracker *tracker, size_t *value)
+/* The last letter goes, and each pair that ended with it has entry 0 again. Refusals 6, 5. */
+static inline struct luff_outcome luff_tracker_take_back(struct luff_tracker *tracker)
 {
-    return luff_take_back_fields(&tracker->length, tracker->bytes, tracker->board, value);
+    return luff_tracker_take_back_fields(&tracker->length, tracker->bytes, tracker->board);
 }
 
-/* Leaves any tracker fresh, also a damaged one. Never refused. */
-static inline size_t luff_clear(struct luff_tracker *tracker)
+/* Makes any tracker fresh, also a damaged one. It is always accepted. */
+static inline struct luff_outcome luff_tracker_clear(struct luff_tracker *tracker)
 {
-    return luff_clear_fields(&tracker->length, tracker->bytes, tracker->board);
-}
-
-/* Lists the Abelian periods of the letters held, as luff_list_plain does. The tracker stays as it is. Refusals 6, 3. */
-static inline size_t luff_list(struct luff_tracker *tracker, uint32_t *out, size_t places, size_t *value, size_t *written)
-{
-    return luff_list_fields(&tracker->length, tracker->bytes, tracker->board, out, places, value, written);
+    return luff_tracker_clear_fields(&tracker->length, tracker->bytes, tracker->board);
 }
 
 /*
- * Makes the tracker fresh, makes n calls on it, a byte each (LUFF_CALL_TAKE_BACK takes back, LUFF_CALL_CLEAR clears, any other byte is
- * added), and lists once. refused: how many of the n calls were refused. The result, value and written are the list's. The tracker is
- * as the calls leave it, whatever the list answers.
+ * Lists the Abelian periods of the letters held, as luff_list_plain does of a word. Of a tracker that no calls have made, it gives the
+ * pairs in range whose entry is 0. Refusals 6, 3.
  */
-static inline size_t luff_replay(struct luff_tracker *tracker, const uint8_t *calls, size_t n, uint32_t *out, size_t places,
-                                 size_t *refused, size_t *value, size_t *written)
+static inline struct luff_wrote luff_tracker_list(const struct luff_tracker *tracker, uint32_t *LUFF_RESTRICT out, size_t places)
 {
-    return luff_replay_fields(calls, n, out, places, &tracker->length, tracker->bytes, tracker->board, refused, value, written);
+    return luff_tracker_list_fields(tracker->length, tracker->bytes, tracker->board, out, places);
+}
+
+/*
+ * Makes the tracker fresh, whatever stood there, makes n calls on it, a byte each (LUFF_CALL_TAKE_BACK takes back, LUFF_CALL_CLEAR clears,
+ * any other byte is added), and lists once. Refusal 3, which is the list's: the tracker is as the calls leave it all the same.
+ */
+static inline struct luff_replayed luff_tracker_replay(struct luff_tracker *tracker, const uint8_t *LUFF_RESTRICT calls, size_t n,
+                                                       uint32_t *LUFF_RESTRICT out, size_t places)
+{
+    return luff_tracker_replay_fields(calls, n, out, places, &tracker->length, tracker->bytes, tracker->board);
 }
 
 #ifdef __cplusplus

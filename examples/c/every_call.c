@@ -1,7 +1,4 @@
-/*
- * Each call once, with the words of document 01: what it returns, its numbers and what it writes. A number is 77 before the call, so that
- * one that is not set is seen.
- */
+/* Each call, with the words of document 01: its refusal, the value of that, its other numbers and what it writes. */
 #include <stdio.h>
 #include <string.h>
 
@@ -30,95 +27,86 @@ static void judge(const char *word, size_t h, size_t p)
 {
     struct luff_head head = {h};
     struct luff_period period = {p};
-    size_t value = 77, yes = 77, block = 77;
-    uint8_t letter = 77;
-    size_t number = luff_judge(bytes(word), strlen(word), head, period, &value, &yes, &block, &letter);
-    printf("judge %s (%zu,%zu): %zu %zu, yes %zu block %zu letter %u\n", word, h, p, number, value, yes, block, (unsigned)letter);
+    struct luff_verdict x = luff_judge(bytes(word), strlen(word), head, period);
+    printf("judge %s (%zu,%zu): %zu %zu, yes %zu block %zu letter %zu\n", word, h, p, x.refusal, x.value, x.yes, x.block, x.letter);
 }
 
 static void list_periods(const char *word)
 {
-    size_t value = 77, written = 77, trials = 77;
-    size_t number = luff_list_plain(bytes(word), strlen(word), out, PLACES, &value, &written, &trials);
-    printf("plain %s: %zu %zu, trials %zu:", word, number, value, trials);
-    print_words(written);
-    value = written = trials = 77;
-    number = luff_list_skipping(bytes(word), strlen(word), out, PLACES, &value, &written, &trials);
-    printf("skipping %s: %zu %zu, trials %zu:", word, number, value, trials);
-    print_words(written);
+    struct luff_listed x = luff_list_plain(bytes(word), strlen(word), out, PLACES);
+    printf("plain %s: %zu %zu, trials %zu:", word, x.refusal, x.value, x.trials);
+    print_words(x.written);
+    x = luff_list_skipping(bytes(word), strlen(word), out, PLACES);
+    printf("skipping %s: %zu %zu, trials %zu:", word, x.refusal, x.value, x.trials);
+    print_words(x.written);
+}
+
+/* Prints a list's answer, behind what was printed of the line before. */
+static void print_list(struct luff_wrote x)
+{
+    printf("%zu %zu:", x.refusal, x.value);
+    print_words(x.written);
 }
 
 static void list_full(const char *word)
 {
-    size_t value = 77, written = 77, s = 77, t = 77;
-    size_t number = luff_list_full(bytes(word), strlen(word), out, PLACES, &value, &written);
-    printf("full %s: %zu %zu:", word, number, value);
-    print_words(written);
-    value = written = 77;
-    number = luff_list_full_scaled(bytes(word), strlen(word), out, PLACES, &value, &written, &s, &t);
-    printf("scaled %s: %zu %zu, s %zu T %zu:", word, number, value, s, t);
-    print_words(written);
+    printf("full %s: ", word);
+    print_list(luff_list_full(bytes(word), strlen(word), out, PLACES));
+    struct luff_scaled x = luff_list_full_scaled(bytes(word), strlen(word), out, PLACES);
+    printf("scaled %s: %zu %zu, s %zu T %zu:", word, x.refusal, x.value, x.s, x.t);
+    print_words(x.written);
 }
 
 static void list_squares(const char *word)
 {
-    size_t value = 77, written = 77;
-    size_t number = luff_list_squares(bytes(word), strlen(word), out, PLACES, &value, &written);
-    printf("squares %s: %zu %zu:", word, number, value);
-    print_words(written);
+    printf("squares %s: ", word);
+    print_list(luff_list_squares(bytes(word), strlen(word), out, PLACES));
 }
 
 static void find_cover(const char *word)
 {
-    size_t value = 77, yes = 77, length = 77;
-    size_t number = luff_find_cover(bytes(word), strlen(word), &value, &yes, &length);
-    printf("cover %s: %zu %zu, yes %zu length %zu\n", word, number, value, yes, length);
+    struct luff_cover x = luff_find_cover(bytes(word), strlen(word));
+    printf("cover %s: %zu %zu, yes %zu length %zu\n", word, x.refusal, x.value, x.yes, x.length);
 }
 
 static void report(const char *word, size_t places)
 {
-    size_t value = 77, written = 77;
-    size_t number = luff_report(bytes(word), strlen(word), out, places, &value, &written);
-    printf("report %s, %zu places: %zu %zu:", word, places, number, value);
-    print_words(written);
+    printf("report %s, %zu places: ", word, places);
+    print_list(luff_report(bytes(word), strlen(word), out, places));
 }
 
 static void list_tracker(const char *name)
 {
-    size_t value = 77, written = 77;
-    size_t number = luff_list(&tracker, out, PLACES, &value, &written);
-    printf("%s %.*s: list %zu %zu:", name, (int)tracker.length, (const char *)tracker.bytes, number, value);
-    print_words(written);
+    printf("%s %.*s: list ", name, (int)tracker.length, (const char *)tracker.bytes);
+    print_list(luff_tracker_list(&tracker, out, PLACES));
+}
+
+static void print_outcome(const char *name, struct luff_outcome x)
+{
+    printf("%s: %zu %zu\n", name, x.refusal, x.value);
 }
 
 static void track(void)
 {
-    static const char letters[] = "abbA";
-    size_t value = 77;
-    luff_fresh(&tracker);
+    luff_tracker_fresh(&tracker);
     list_tracker("fresh");
-    for (size_t i = 0; letters[i] != '\0'; i++) {
-        size_t number = luff_add(&tracker, (uint8_t)letters[i], &value);
-        printf("add %c: %zu %zu\n", letters[i], number, value);
-    }
+    print_outcome("add a", luff_tracker_add(&tracker, 'a'));
+    print_outcome("add b", luff_tracker_add(&tracker, 'b'));
+    print_outcome("add b", luff_tracker_add(&tracker, 'b'));
+    print_outcome("add A", luff_tracker_add(&tracker, 'A'));
     list_tracker("tracker");
-    value = 77;
-    size_t number = luff_take_back(&tracker, &value);
-    printf("take-back: %zu %zu\n", number, value);
+    print_outcome("take-back", luff_tracker_take_back(&tracker));
     list_tracker("tracker");
-    printf("clear: %zu\n", luff_clear(&tracker));
-    value = 77;
-    number = luff_take_back(&tracker, &value);
-    printf("take-back: %zu %zu\n", number, value);
+    print_outcome("clear", luff_tracker_clear(&tracker));
+    print_outcome("take-back", luff_tracker_take_back(&tracker));
 }
 
 static void replay(const char *calls, size_t places)
 {
-    size_t refused = 77, value = 77, written = 77;
-    size_t number = luff_replay(&tracker, bytes(calls), strlen(calls), out, places, &refused, &value, &written);
-    printf("replay %s, %zu places: %zu %zu, refused %zu, holds %.*s:", calls, places, number, value, refused, (int)tracker.length,
+    struct luff_replayed x = luff_tracker_replay(&tracker, bytes(calls), strlen(calls), out, places);
+    printf("replay %s, %zu places: %zu %zu, refused %zu, holds %.*s:", calls, places, x.refusal, x.value, x.refused, (int)tracker.length,
            (const char *)tracker.bytes);
-    print_words(written);
+    print_words(x.written);
 }
 
 int main(void)

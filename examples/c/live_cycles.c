@@ -12,40 +12,39 @@ static uint32_t cycles[LUFF_MOST_PERIODS];
 /* Prints the letters held and the live cycles, head first. */
 static void print_live(void)
 {
-    size_t value = 0, written = 0;
-    if (luff_list(&tracker, cycles, LUFF_MOST_PERIODS, &value, &written) != LUFF_ACCEPTED) {
+    struct luff_wrote list = luff_tracker_list(&tracker, cycles, LUFF_MOST_PERIODS);
+    if (list.refusal != LUFF_ACCEPTED) {
         printf("not listed\n");
         return;
     }
-    printf("%.*s: %zu live", (int)tracker.length, (const char *)tracker.bytes, written);
-    for (size_t i = 0; i < written; i++) {
+    printf("%.*s: %zu live", (int)tracker.length, (const char *)tracker.bytes, list.written);
+    for (size_t i = 0; i < list.written; i++) {
         printf(" (%u,%u)", (unsigned)LUFF_WORD_LOWER(cycles[i]), (unsigned)LUFF_WORD_UPPER(cycles[i]));
     }
     printf("\n");
 }
 
 /* Takes one event of the stream. */
-static size_t take(uint8_t event, size_t *value)
+static struct luff_outcome take(uint8_t event)
 {
     if (event == '-') {
-        return luff_take_back(&tracker, value);
+        return luff_tracker_take_back(&tracker);
     }
     if (event == '!') {
-        return luff_clear(&tracker);
+        return luff_tracker_clear(&tracker);
     }
-    return luff_add(&tracker, event, value);
+    return luff_tracker_add(&tracker, event);
 }
 
 int main(void)
 {
     static const char stream[] = "-abb-ba?!abaababa";
-    luff_fresh(&tracker);
+    luff_tracker_fresh(&tracker);
     for (size_t i = 0; stream[i] != '\0'; i++) {
-        size_t value = 0;
-        size_t refusal = take((uint8_t)stream[i], &value);
+        struct luff_outcome outcome = take((uint8_t)stream[i]);
         printf("%c ", stream[i]);
-        if (refusal != LUFF_ACCEPTED) {
-            printf("refused %zu %zu, ", refusal, value);
+        if (outcome.refusal != LUFF_ACCEPTED) {
+            printf("refused %zu %zu, ", outcome.refusal, outcome.value);
         }
         print_live();
     }

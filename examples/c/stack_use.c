@@ -1,9 +1,9 @@
 /*
- * How much stack each call takes, held against a limit. A call is made on a stack of its own that was painted before: the lowest byte that
- * is no longer painted is the lowest that was used, and from that comes off what is used there without a call. Each call is made in
- * several ways, on words of the greatest length and on trackers that hold as many letters as the call can take, accepted and refused; the
- * one that takes most counts. A tracker is lent by the caller and is not part of it. Prints for each call whether it is within its limit;
- * with an argument it prints the bytes too. The exit status is 1 where a call is above its limit.
+ * How much stack each call takes, held against the header's limit. A call is made on a stack of its own that was painted before: the lowest
+ * byte that is no longer painted is the lowest that was used, and from that comes off what is used there without a call. Each call is made
+ * in several ways, on words of the greatest length and on trackers that hold as many letters as the call can take, accepted and refused;
+ * the one that takes most counts. A tracker is lent by the caller and is not part of it. Prints for each call whether it is within its
+ * limit; with an argument it prints the bytes too. The exit status is 1 where a call is above its limit.
  */
 #define _XOPEN_SOURCE 600
 #include <stdio.h>
@@ -39,10 +39,6 @@ static struct way way;
 static uint32_t out[LUFF_MOST_REPORT];
 static struct luff_tracker tracker;
 
-/* The calls' numbers, which are of no interest here. */
-static size_t a, b, c, d;
-static uint8_t letter;
-
 static void none(void)
 {
 }
@@ -51,67 +47,67 @@ static void judge(void)
 {
     struct luff_head head = {3};
     struct luff_period period = {8};
-    luff_judge(word, LUFF_LONGEST, head, period, &a, &b, &c, &letter);
+    luff_judge(word, LUFF_LONGEST, head, period);
 }
 
 static void list_plain(void)
 {
-    luff_list_plain(word, LUFF_LONGEST, out, way.places, &a, &b, &c);
+    luff_list_plain(word, LUFF_LONGEST, out, way.places);
 }
 
 static void list_skipping(void)
 {
-    luff_list_skipping(word, LUFF_LONGEST, out, way.places, &a, &b, &c);
+    luff_list_skipping(word, LUFF_LONGEST, out, way.places);
 }
 
 static void list_full(void)
 {
-    luff_list_full(word, LUFF_LONGEST, out, way.places, &a, &b);
+    luff_list_full(word, LUFF_LONGEST, out, way.places);
 }
 
 static void list_full_scaled(void)
 {
-    luff_list_full_scaled(word, LUFF_LONGEST, out, way.places, &a, &b, &c, &d);
+    luff_list_full_scaled(word, LUFF_LONGEST, out, way.places);
 }
 
 static void list_squares(void)
 {
-    luff_list_squares(word, LUFF_LONGEST, out, way.places, &a, &b);
+    luff_list_squares(word, LUFF_LONGEST, out, way.places);
 }
 
 static void find_cover(void)
 {
-    luff_find_cover(word, LUFF_LONGEST, &a, &b, &c);
+    luff_find_cover(word, LUFF_LONGEST);
 }
 
 static void report(void)
 {
-    luff_report(word, LUFF_LONGEST, out, way.places, &a, &b);
+    luff_report(word, LUFF_LONGEST, out, way.places);
 }
 
 static void fresh(void)
 {
-    luff_fresh(&tracker);
+    luff_tracker_fresh(&tracker);
 }
 
 static void add(void)
 {
-    luff_add(&tracker, way.letter, &a);
+    luff_tracker_add(&tracker, way.letter);
 }
 
 static void take_back(void)
 {
-    luff_take_back(&tracker, &a);
+    luff_tracker_take_back(&tracker);
 }
 
 static void clear(void)
 {
-    luff_clear(&tracker);
+    luff_tracker_clear(&tracker);
 }
 
 static void list(void)
 {
-    luff_list(&tracker, out, way.places, &a, &b);
+    luff_tracker_list(&tracker, out, way.places);
 }
 
 /* The letters of the word, then a take-back, a byte that may be refused, a letter and one more, which is refused. */
@@ -123,29 +119,29 @@ static void replay(void)
     calls[LUFF_LONGEST + 1] = way.letter;
     calls[LUFF_LONGEST + 2] = word[0];
     calls[LUFF_LONGEST + 3] = word[0];
-    luff_replay(&tracker, calls, sizeof calls, out, way.places, &a, &b, &c);
+    luff_tracker_replay(&tracker, calls, sizeof calls, out, way.places);
 }
 
-/* Each call, and the stack that it may take. */
+/* Each call, and the stack that the header says it takes at most. */
 static const struct {
     const char *name;
     void (*make)(void);
     size_t limit;
 } calls[] = {
-    {"judge", judge, 4096},
-    {"list_plain", list_plain, 24576},
-    {"list_skipping", list_skipping, 28672},
-    {"list_full", list_full, 4096},
-    {"list_full_scaled", list_full_scaled, 4096},
-    {"list_squares", list_squares, 20480},
-    {"find_cover", find_cover, 4096},
-    {"report", report, LUFF_STACK},
-    {"fresh", fresh, 12288},
-    {"add", add, 12288},
-    {"take_back", take_back, 12288},
-    {"clear", clear, 12288},
-    {"list", list, 12288},
-    {"replay", replay, 12288},
+    {"judge", judge, LUFF_STACK_JUDGE},
+    {"list_plain", list_plain, LUFF_STACK_LIST_PLAIN},
+    {"list_skipping", list_skipping, LUFF_STACK_LIST_SKIPPING},
+    {"list_full", list_full, LUFF_STACK_LIST_FULL},
+    {"list_full_scaled", list_full_scaled, LUFF_STACK_LIST_FULL_SCALED},
+    {"list_squares", list_squares, LUFF_STACK_LIST_SQUARES},
+    {"find_cover", find_cover, LUFF_STACK_FIND_COVER},
+    {"report", report, LUFF_STACK_REPORT},
+    {"fresh", fresh, LUFF_STACK_TRACKER},
+    {"add", add, LUFF_STACK_TRACKER},
+    {"take_back", take_back, LUFF_STACK_TRACKER},
+    {"clear", clear, LUFF_STACK_TRACKER},
+    {"list", list, LUFF_STACK_TRACKER},
+    {"replay", replay, LUFF_STACK_TRACKER},
 };
 
 /* The bytes used of a stack of its own on which the function runs. */
@@ -173,13 +169,12 @@ static size_t used(void (*make)(void), uint8_t *stack)
 /* The word is the block over and over, and the tracker holds the first letters of it. */
 static void prepare(const char *block)
 {
-    size_t value = 0;
     for (size_t i = 0; i < LUFF_LONGEST; i++) {
         word[i] = (uint8_t)block[i % strlen(block)];
     }
-    luff_fresh(&tracker);
+    luff_tracker_fresh(&tracker);
     for (size_t i = 0; i < way.held; i++) {
-        luff_add(&tracker, word[i], &value);
+        luff_tracker_add(&tracker, word[i]);
     }
 }
 
