@@ -1,0 +1,9 @@
+//! Tests and times of Luffbutton. `reference` is a second implementation, `peers` has other algorithms to compare times with,
+//! `generator` makes words, and `calls` lets one test run on the library and on the second implementation.
+#![forbid(unsafe_code)]
+
+pub mod calls;
+pub mod generator;
+pub mod library;
+pub mod peers;
+pub mod reference;

@@ -1,0 +1,86 @@
+//! The proved library, with every number of its answers.
+use crate::calls::{Answer, Calls};
+use luffbutton::numbers::{self, Cover, Listed, Outcome, Replayed, Scaled, Verdict, Wrote};
+use luffbutton::{Fields, Head, Period};
+
+/// The library behind the C interface.
+pub struct Library;
+
+/// Makes an answer of a call's numbers: for each struct its numbers by name, and under which name the answer has them.
+macro_rules! answers {
+    ($($numbers:ident { $($name:ident: $kept:ident),* })*) => {$(
+        impl From<$numbers> for Answer {
+            fn from($numbers { refusal: number, value, $($name: $kept),* }: $numbers) -> Answer {
+                Answer { number, value, $($kept,)* ..Answer::default() }
+            }
+        }
+    )*};
+}
+
+answers! {
+    Outcome {}
+    Wrote { written: written }
+    Listed { written: written, trials: trials }
+    Scaled { written: written, s: s, t: t }
+    Verdict { yes: yes, block: block, letter: letter }
+    Cover { yes: yes, length: cover }
+    Replayed { refused: refused, written: written }
+}
+
+impl Calls for Library {
+    fn judge(&self, word: &[u8], head: Head, period: Period) -> Answer {
+        numbers::judge(word, head, period).into()
+    }
+
+    fn list_plain(&self, word: &[u8], out: &mut [u32]) -> Answer {
+        numbers::list_plain(word, out).into()
+    }
+
+    fn list_skipping(&self, word: &[u8], out: &mut [u32]) -> Answer {
+        numbers::list_skipping(word, out).into()
+    }
+
+    fn list_full(&self, word: &[u8], out: &mut [u32]) -> Answer {
+        numbers::list_full(word, out).into()
+    }
+
+    fn list_full_scaled(&self, word: &[u8], out: &mut [u32]) -> Answer {
+        numbers::list_full_scaled(word, out).into()
+    }
+
+    fn list_squares(&self, word: &[u8], out: &mut [u32]) -> Answer {
+        numbers::list_squares(word, out).into()
+    }
+
+    fn find_cover(&self, word: &[u8]) -> Answer {
+        numbers::find_cover(word).into()
+    }
+
+    fn report(&self, word: &[u8], out: &mut [u32]) -> Answer {
+        numbers::report(word, out).into()
+    }
+
+    fn fresh(&self, tracker: &mut Fields) {
+        numbers::fresh(tracker);
+    }
+
+    fn add(&self, tracker: &mut Fields, letter: u8) -> Answer {
+        numbers::add(tracker, letter).into()
+    }
+
+    fn take_back(&self, tracker: &mut Fields) -> Answer {
+        numbers::take_back(tracker).into()
+    }
+
+    fn clear(&self, tracker: &mut Fields) -> Answer {
+        numbers::clear(tracker).into()
+    }
+
+    fn list(&self, tracker: &Fields, out: &mut [u32]) -> Answer {
+        numbers::list(tracker, out).into()
+    }
+
+    fn replay(&self, tracker: &mut Fields, calls: &[u8], out: &mut [u32]) -> Answer {
+        numbers::replay(tracker, calls, out).into()
+    }
+}

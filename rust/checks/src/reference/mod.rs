@@ -1,0 +1,191 @@
+//! A second implementation, written from document 01 alone and in the plainest way: every block is counted anew, every definition is
+//! tried word by word, and the tracker's machine is a list of letters. It shares no route with the library, which goes by prefix
+//! counts and boards.
+mod covers;
+mod full_periods;
+mod periods;
+mod squares;
+mod tracker;
+mod words;
+
+pub use covers::{cover_lengths, has_cover};
+pub use full_periods::{full_periods, scaled};
+pub use periods::{ended_length, in_range, is_period, pairs, periods, Pair};
+pub use squares::squares;
+pub use tracker::{Machine, Prefixes};
+pub use words::is_letter;
+
+use crate::calls::{Answer, Calls};
+use luffbutton::{Fields, Head, Period, LONGEST};
+use periods::{first_failure, plain_trials, skipping_trials};
+
+/// The second implementation.
+pub struct Reference;
+
+/// An output word: the kind in the top 4 bits, then the upper and the lower number.
+fn output_word(kind: usize, upper: usize, lower: usize) -> u32 {
+    (kind * (1 << 28) + upper * (1 << 14) + lower) as u32
+}
+
+/// The words of a word's Abelian periods.
+fn period_words(pairs: &[Pair]) -> Vec<u32> {
+    let word_of = |pair: &Pair| output_word(1, pair.period.0, pair.head.0);
+    pairs.iter().map(word_of).collect()
+}
+
+fn square_words(word: &[u8]) -> Vec<u32> {
+    let word_of = |&(half, start): &(usize, usize)| output_word(2, half, start);
+    squares(word).iter().map(word_of).collect()
+}
+
+fn full_words(word: &[u8]) -> Vec<u32> {
+    let word_of = |&p: &usize| output_word(3, p, word.len() / p);
+    full_periods(word).iter().map(word_of).collect()
+}
+
+/// A report: its head, then full periods, periods and squares.
+fn report_words(word: &[u8]) -> Vec<u32> {
+    let mut words = vec![output_word(8, word.len(), usize::from(has_cover(word)))];
+    words.extend(full_words(word));
+    words.extend(period_words(&periods(word)));
+    words.extend(square_words(word));
+    words
+}
+
+/// Refusals 1 and 2 of a word, in this order.
+fn word_refusal(word: &[u8]) -> Option<Answer> {
+    if word.len() > LONGEST {
+        return Some(Answer::refused(1, 0));
+    }
+    let first_outside = word.iter().position(|&byte| !is_letter(byte))?;
+    Some(Answer::refused(2, first_outside + 1))
+}
+
+/// Writes the words to the first places, or refuses with 3 and leaves the slice as it is.
+fn write(words: &[u32], out: &mut [u32]) -> Answer {
+    if words.len() > out.len() {
+        return Answer::refused(3, words.len());
+    }
+    out[..words.len()].copy_from_slice(words);
+    Answer {
+        written: words.len(),
+        ..Answer::default()
+    }
+}
+
+/// A list call on a word: refusals 1, 2, 3, else the list with the numbers that `numbers` adds to an accepted answer.
+fn list_call(
+    word: &[u8],
+    out: &mut [u32],
+    list: impl Fn(&[u8]) -> Vec<u32>,
+    numbers: impl Fn(Answer) -> Answer,
+) -> Answer {
+    if let Some(refusal) = word_refusal(word) {
+        return refusal;
+    }
+    let answer = write(&list(word), out);
+    if answer.number == 0 {
+        numbers(answer)
+    } else {
+        answer
+    }
+}
+
+impl Calls for Reference {
+    fn judge(&self, word: &[u8], head: Head, period: Period) -> Answer {
+        if let Some(refusal) = word_refusal(word) {
+            return refusal;
+        }
+        let pair = Pair { head, period };
+        if !in_range(word.len(), pair) {
+            return Answer::refused(7, 0);
+        }
+        match first_failure(word, pair) {
+            None => Answer {
+                yes: 1,
+                ..Answer::default()
+            },
+            Some((block, letter)) => Answer {
+                block,
+                letter: usize::from(letter),
+                ..Answer::default()
+            },
+        }
+    }
+
+    fn list_plain(&self, word: &[u8], out: &mut [u32]) -> Answer {
+        let list = |word: &[u8]| period_words(&periods(word));
+        list_call(word, out, list, |answer| Answer {
+            trials: plain_trials(word),
+            ..answer
+        })
+    }
+
+    fn list_skipping(&self, word: &[u8], out: &mut [u32]) -> Answer {
+        let list = |word: &[u8]| period_words(&periods(word));
+        list_call(word, out, list, |answer| Answer {
+            trials: skipping_trials(word),
+            ..answer
+        })
+    }
+
+    fn list_full(&self, word: &[u8], out: &mut [u32]) -> Answer {
+        list_call(word, out, full_words, |answer| answer)
+    }
+
+    fn list_full_scaled(&self, word: &[u8], out: &mut [u32]) -> Answer {
+        list_call(word, out, full_words, |answer| {
+            let (s, t) = scaled(word);
+            Answer { s, t, ..answer }
+        })
+    }
+
+    fn list_squares(&self, word: &[u8], out: &mut [u32]) -> Answer {
+        list_call(word, out, square_words, |answer| answer)
+    }
+
+    fn find_cover(&self, word: &[u8]) -> Answer {
+        if let Some(refusal) = word_refusal(word) {
+            return refusal;
+        }
+        if !has_cover(word) {
+            return Answer::default();
+        }
+        // Document 01 leaves free which length is given; the library gives the smallest.
+        let smallest = cover_lengths(word).first().copied();
+        Answer {
+            yes: 1,
+            cover: smallest.expect("a word with a cover has one of two intervals"),
+            ..Answer::default()
+        }
+    }
+
+    fn report(&self, word: &[u8], out: &mut [u32]) -> Answer {
+        list_call(word, out, report_words, |answer| answer)
+    }
+
+    fn fresh(&self, tracker: &mut Fields) {
+        *tracker = Fields::zero();
+    }
+
+    fn add(&self, tracker: &mut Fields, letter: u8) -> Answer {
+        tracker::add(tracker, letter)
+    }
+
+    fn take_back(&self, tracker: &mut Fields) -> Answer {
+        tracker::take_back(tracker)
+    }
+
+    fn clear(&self, tracker: &mut Fields) -> Answer {
+        *tracker = Fields::zero();
+        Answer::default()
+    }
+
+    fn list(&self, tracker: &Fields, out: &mut [u32]) -> Answer {
+        tracker::list(tracker, out)
+    }
+
+    fn replay(&self, tracker: &mut Fields, calls: &[u8], out: &mut [u32]) -> Answer {
+        tracker::replay(tracker, calls, out)
+    }
+}

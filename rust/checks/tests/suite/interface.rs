@@ -1,0 +1,188 @@
+//! The safe interface: its types say what the numbers say.
+use crate::support::{lent, places_enough, seeded, shown};
+use checks::calls::{Answer, Calls};
+use checks::library::Library;
+use checks::reference::{pairs, periods, squares, Pair};
+use luffbutton::{find_cover, findings, judge, list_full, list_full_scaled, list_plain};
+use luffbutton::{list_skipping, list_squares, report, Cover, Finding, Head, Period, Refusal};
+use luffbutton::{Tracker, Verdict, BOARD, CLEAR, LONGEST, TAKE_BACK};
+
+#[test]
+fn verdicts() {
+    assert_eq!(judge(b"abaababa", Head(1), Period(2)), Ok(Verdict::Yes));
+    let no = Verdict::No {
+        block: 2,
+        letter: b'a',
+    };
+    assert_eq!(judge(b"abaababa", Head(0), Period(4)), Ok(no));
+    assert_eq!(
+        judge(b"aa", Head(1), Period(1)),
+        Err(Refusal::PairOutOfRange)
+    );
+    let bad = Refusal::NotALetter { position: 2 };
+    assert_eq!(judge(b"aBc", Head(0), Period(1)), Err(bad));
+    assert_eq!(
+        judge(&[b'a'; 241], Head(0), Period(1)),
+        Err(Refusal::TooLong)
+    );
+}
+
+#[test]
+fn covers() {
+    assert_eq!(find_cover(b"abba"), Ok(Cover::Length(2)));
+    assert_eq!(find_cover(b"aaab"), Ok(Cover::Nothing));
+    assert_eq!(find_cover(b"?"), Err(Refusal::NotALetter { position: 1 }));
+}
+
+/// Every list call answers what the numbers say, and refuses a slice that is too short with the words needed.
+#[test]
+fn lists() {
+    let mut generator = seeded(80);
+    for n in 1..=40 {
+        let (word, _) = generator.cyclic(n, 3);
+        let _shown = shown(&word);
+        for places in [places_enough(n), 2] {
+            let mut out = vec![0; places];
+            let numbers = Library.list_plain(&word, &mut out);
+            let typed = list_plain(&word, &mut out).map(|x| (x.written, x.trials));
+            assert_eq!(typed, due(numbers, (numbers.written, numbers.trials)));
+            let numbers = Library.list_skipping(&word, &mut out);
+            let typed = list_skipping(&word, &mut out).map(|x| (x.written, x.trials));
+            assert_eq!(typed, due(numbers, (numbers.written, numbers.trials)));
+            let numbers = Library.list_full_scaled(&word, &mut out);
+            let typed = list_full_scaled(&word, &mut out).map(|x| (x.written, x.s, x.t));
+            assert_eq!(typed, due(numbers, (numbers.written, numbers.s, numbers.t)));
+            let numbers = Library.list_full(&word, &mut out);
+            assert_eq!(list_full(&word, &mut out), due(numbers, numbers.written));
+            let numbers = Library.list_squares(&word, &mut out);
+            assert_eq!(list_squares(&word, &mut out), due(numbers, numbers.written));
+            let numbers = Library.report(&word, &mut out);
+            assert_eq!(report(&word, &mut out), due(numbers, numbers.written));
+        }
+    }
+}
+
+/// The accepted numbers, or the refusal of a slice that is too short.
+fn due<T>(answer: Answer, accepted: T) -> Result<T, Refusal> {
+    match answer.number {
+        0 => Ok(accepted),
+        3 => Err(Refusal::SliceTooShort {
+            needed: answer.value,
+        }),
+        other => panic!("refusal {other}"),
+    }
+}
+
+/// A report's words say its head, full periods, periods and squares.
+#[test]
+fn findings_of_a_report() {
+    let word = b"abba";
+    let (answer, out) = lent(20, |out| Library.report(word, out));
+    let mut due = vec![Finding::ReportHead {
+        length: 4,
+        cover: true,
+    }];
+    due.extend([(2, 2), (4, 1)].map(|(p, blocks)| Finding::Full {
+        period: Period(p),
+        blocks,
+    }));
+    let period = |Pair { head, period }: Pair| Finding::Period { head, period };
+    due.extend(periods(word).into_iter().map(period));
+    let square = |(half, start)| Finding::Square { half, start };
+    due.extend(squares(word).into_iter().map(square));
+    let found: Vec<Finding> = findings(&out[..answer.written]).collect();
+    assert_eq!(found, due);
+    let one_by_one = out[..answer.written].iter().map(|&x| Finding::of(x));
+    assert!(one_by_one.eq(due.into_iter().map(Some)));
+    assert_eq!(Finding::of(0), None);
+    assert_eq!(Finding::of(9 << 28), None);
+    assert_eq!(findings(&[0, 9 << 28]).next(), None);
+}
+
+#[test]
+fn refusals_have_their_numbers_and_values() {
+    let table = [
+        (Refusal::TooLong, 1, 0),
+        (Refusal::NotALetter { position: 9 }, 2, 9),
+        (Refusal::SliceTooShort { needed: 7 }, 3, 7),
+        (Refusal::TrackerFull, 4, 0),
+        (Refusal::TrackerEmpty, 5, 0),
+        (Refusal::TrackerDamaged, 6, 0),
+        (Refusal::PairOutOfRange, 7, 0),
+    ];
+    for (refusal, number, value) in table {
+        assert_eq!((refusal.number(), refusal.value()), (number, value));
+    }
+}
+
+#[test]
+fn a_tracker_through_its_calls() {
+    let mut tracker = Tracker::fresh();
+    let mut out = vec![0; BOARD];
+    assert_eq!(tracker.take_back(), Err(Refusal::TrackerEmpty));
+    for &letter in b"abaababa" {
+        assert_eq!(tracker.add(letter), Ok(()));
+    }
+    assert_eq!(tracker.add(b'B'), Err(Refusal::NotALetter { position: 1 }));
+    assert_eq!(tracker.letters(), b"abaababa");
+    assert_eq!(
+        tracker.list(&mut out[..15]),
+        Err(Refusal::SliceTooShort { needed: 16 })
+    );
+    assert_eq!(tracker.list(&mut out), Ok(16));
+    assert_eq!(tracker.take_back(), Ok(()));
+    assert_eq!(tracker.letters(), b"abaabab");
+    tracker.clear();
+    assert!(tracker == Tracker::default() && tracker.letters().is_empty());
+    for _ in 0..LONGEST {
+        assert_eq!(tracker.add(b'a'), Ok(()));
+    }
+    assert_eq!(tracker.add(b'a'), Err(Refusal::TrackerFull));
+    assert_eq!(tracker.list(&mut out), Ok(pairs(LONGEST).len()));
+}
+
+#[test]
+fn a_tracker_by_a_replay() {
+    let mut out = [0; 4];
+    let (mut replayed, refused, listed) = Tracker::replay(b"-ab!?abb-", &mut out);
+    assert_eq!((refused, listed), (2, Ok(1)));
+    assert_eq!(replayed.letters(), b"ab");
+    let mut tracker = Tracker::fresh();
+    for &letter in b"ab" {
+        assert_eq!(tracker.add(letter), Ok(()));
+    }
+    assert!(replayed == tracker && replayed.fields() == tracker.fields());
+    assert_eq!(replayed.add(b'b'), Ok(()));
+}
+
+/// A replay whose list is refused has made its calls, and says how many of them were refused.
+#[test]
+fn a_replay_whose_list_is_refused() {
+    let mut out = [7; 4];
+    let short = Err(Refusal::SliceTooShort { needed: 6 });
+    let (tracker, refused, listed) = Tracker::replay(b"aaaa", &mut out);
+    assert_eq!((refused, listed), (0, short));
+    assert_eq!(tracker.letters(), b"aaaa");
+    let calls = [b'b', CLEAR, TAKE_BACK, b'a', b'a', b'?', b'a', b'a'];
+    let (other, refused, listed) = Tracker::replay(&calls, &mut out);
+    assert_eq!((refused, listed), (2, short));
+    assert!(other == tracker);
+    assert_eq!(out, [7; 4]);
+}
+
+/// A list only reads its tracker, so that several may run on one at the same time.
+#[test]
+fn lists_of_one_tracker_at_the_same_time() {
+    let letters = seeded(81).cyclic(LONGEST, 3).0;
+    let (tracker, _, listed) = Tracker::replay(&letters, &mut vec![0; BOARD]);
+    let lists = || {
+        for _ in 0..100 {
+            assert_eq!(tracker.list(&mut vec![0; BOARD]), listed);
+        }
+    };
+    std::thread::scope(|scope| {
+        for _ in 0..4 {
+            scope.spawn(lists);
+        }
+    });
+}

@@ -1,0 +1,232 @@
+//! Trackers that no calls have made, damaged or not, with any board: one call on the library and on the second implementation's step by
+//! fields. Answers, slices and every field afterwards are compared.
+use crate::support::{assert_same_fields, lent, marks, seeded, sparse, Shown};
+use checks::calls::{Answer, Calls};
+use checks::generator::Generator;
+use checks::library::Library;
+use checks::reference::{is_letter, Reference};
+use luffbutton::{Fields, BOARD, LETTERS, LONGEST};
+
+/// To be held while a tracker is tried.
+fn shown(tracker: &Fields) -> Shown {
+    Shown(format!(
+        "tracker: length {}, bytes {:?}, board {:?}",
+        tracker.length,
+        sparse(&tracker.bytes),
+        sparse(&tracker.board)
+    ))
+}
+
+/// A length: mostly of some dozen letters, now and then near the longest.
+fn length(generator: &mut Generator) -> usize {
+    match generator.below(8) {
+        0 => LONGEST,
+        1 => LONGEST - 1 - generator.below(3),
+        2 => generator.below(3),
+        _ => generator.below(70),
+    }
+}
+
+/// Any entry: mostly such as take-backs and adds look at.
+fn entry(generator: &mut Generator, length: usize) -> u8 {
+    let any = generator.byte();
+    let (here, next) = (length as u8, (length + 1).min(255) as u8);
+    generator.pick(&[0, 0, 1, here, next, LONGEST as u8, 255, any])
+}
+
+/// A tracker that is not damaged: letters within the length, any bytes beyond it, any board, sparse or dense.
+fn made(generator: &mut Generator) -> Fields {
+    let mut tracker = Fields::zero();
+    tracker.length = length(generator);
+    let k = 1 + generator.below(LETTERS);
+    let letters = if tracker.length > 0 && generator.once_in(2) {
+        generator.cyclic(tracker.length, k).0
+    } else {
+        generator.uniform(tracker.length, k)
+    };
+    tracker.bytes[..letters.len()].copy_from_slice(&letters);
+    if generator.once_in(2) {
+        tracker.bytes[letters.len()..].fill_with(|| generator.byte());
+    }
+    if generator.once_in(2) {
+        tracker.board.fill_with(|| entry(generator, letters.len()));
+    } else {
+        for _ in 0..generator.below(60) {
+            let place = generator.below(BOARD.min(100 + letters.len() * letters.len()));
+            tracker.board[place] = entry(generator, letters.len());
+        }
+    }
+    tracker
+}
+
+/// Compares one call on a copy of the tracker.
+fn compare_add(tracker: &Fields, letter: u8) -> usize {
+    let _shown = shown(tracker);
+    let (mut left, mut right) = (tracker.clone(), tracker.clone());
+    let answer = Library.add(&mut left, letter);
+    assert_eq!(answer, Reference.add(&mut right, letter), "add {letter}");
+    assert_same_fields(&left, &right);
+    answer.number
+}
+
+fn compare_take_back(tracker: &Fields) -> usize {
+    let _shown = shown(tracker);
+    let (mut left, mut right) = (tracker.clone(), tracker.clone());
+    let answer = Library.take_back(&mut left);
+    assert_eq!(answer, Reference.take_back(&mut right), "take_back");
+    assert_same_fields(&left, &right);
+    answer.number
+}
+
+fn compare_list(tracker: &Fields, places: usize) -> usize {
+    let _shown = shown(tracker);
+    let (left, right) = (tracker.clone(), tracker.clone());
+    let answered = lent(places, |out| Library.list(&left, out));
+    let due = lent(places, |out| Reference.list(&right, out));
+    assert_eq!(answered, due, "list with {places} places");
+    assert_same_fields(&left, tracker);
+    assert_same_fields(&right, tracker);
+    answered.0.number
+}
+
+#[test]
+fn adds_to_made_trackers() {
+    let mut generator = seeded(60);
+    let mut answers = [0; 8];
+    for _ in 0..1500 {
+        let tracker = made(&mut generator);
+        let any = generator.byte();
+        let letter = if generator.once_in(8) {
+            any
+        } else {
+            generator.letter(LETTERS)
+        };
+        answers[compare_add(&tracker, letter)] += 1;
+    }
+    assert!(
+        answers[0] >= 500 && answers[2] >= 50 && answers[4] >= 50,
+        "{answers:?}"
+    );
+}
+
+#[test]
+fn take_backs_from_made_trackers() {
+    let mut generator = seeded(61);
+    let mut answers = [0; 8];
+    for _ in 0..1500 {
+        answers[compare_take_back(&made(&mut generator))] += 1;
+    }
+    assert!(answers[0] >= 500 && answers[5] >= 20, "{answers:?}");
+}
+
+#[test]
+fn lists_of_made_trackers() {
+    let mut generator = seeded(62);
+    let mut answers = [0; 8];
+    for _ in 0..1500 {
+        let tracker = made(&mut generator);
+        let few = generator.below(300);
+        let places = generator.pick(&[0, few, BOARD]);
+        answers[compare_list(&tracker, places)] += 1;
+    }
+    assert!(answers[0] >= 300 && answers[3] >= 300, "{answers:?}");
+}
+
+/// Several calls in a row on one made tracker.
+#[test]
+fn calls_in_a_row_on_made_trackers() {
+    let mut generator = seeded(63);
+    for _ in 0..100 {
+        let mut left = made(&mut generator);
+        let _shown = shown(&left);
+        let mut right = left.clone();
+        for _ in 0..12 {
+            let letter = generator.letter(3);
+            let (answer, due) = if generator.once_in(2) {
+                (
+                    Library.add(&mut left, letter),
+                    Reference.add(&mut right, letter),
+                )
+            } else {
+                (
+                    Library.take_back(&mut left),
+                    Reference.take_back(&mut right),
+                )
+            };
+            assert_eq!(answer, due);
+            assert_same_fields(&left, &right);
+        }
+    }
+}
+
+/// A made tracker that is damaged: a length above the longest, or a byte within the length that is no letter.
+fn damaged(generator: &mut Generator) -> Fields {
+    let mut tracker = made(generator);
+    if generator.once_in(2) {
+        let some = LONGEST + 1 + generator.below(100);
+        tracker.length = generator.pick(&[LONGEST + 1, some, 256, 1 << 40, usize::MAX]);
+        return tracker;
+    }
+    tracker.length = tracker.length.max(1);
+    let at = generator.below(tracker.length);
+    tracker.bytes[at] = generator.byte();
+    while is_letter(tracker.bytes[at]) {
+        tracker.bytes[at] = generator.byte();
+    }
+    tracker
+}
+
+/// Add, take-back and list refuse it with 6, before all else, and change nothing; clear leaves it fresh.
+#[test]
+fn damaged_trackers() {
+    let mut generator = seeded(64);
+    for _ in 0..600 {
+        let tracker = damaged(&mut generator);
+        let _shown = shown(&tracker);
+        let any = generator.byte();
+        for letter in [b'a', any] {
+            assert_eq!(compare_add(&tracker, letter), 6);
+        }
+        assert_eq!(compare_take_back(&tracker), 6);
+        for places in [0, 5, BOARD] {
+            assert_eq!(compare_list(&tracker, places), 6);
+        }
+        let mut left = tracker.clone();
+        assert_eq!(
+            lent(4, |out| Library.list(&left, out)),
+            (Answer::refused(6, 0), marks(4))
+        );
+        assert_eq!(Library.clear(&mut left).number, 0);
+        assert_same_fields(&left, &Fields::zero());
+    }
+}
+
+/// A bad byte at every place within the length is found.
+#[test]
+fn a_bad_byte_at_every_place_of_a_tracker() {
+    let mut generator = seeded(65);
+    let mut tracker = Fields::zero();
+    tracker.length = LONGEST;
+    let word = generator.uniform(LONGEST, LETTERS);
+    tracker.bytes.copy_from_slice(&word);
+    assert_eq!(compare_take_back(&tracker), 0);
+    for (at, &letter) in word.iter().enumerate() {
+        tracker.bytes[at] = 0;
+        assert_eq!(compare_add(&tracker, b'a'), 6, "a bad byte at {at}");
+        assert_eq!(compare_take_back(&tracker), 6, "a bad byte at {at}");
+        assert_eq!(compare_list(&tracker, 3), 6, "a bad byte at {at}");
+        tracker.bytes[at] = letter;
+    }
+}
+
+/// Clear leaves any tracker fresh.
+#[test]
+fn clears_of_made_trackers() {
+    let mut generator = seeded(66);
+    for _ in 0..200 {
+        let mut tracker = made(&mut generator);
+        let _shown = shown(&tracker);
+        assert_eq!(Library.clear(&mut tracker), Default::default());
+        assert_same_fields(&tracker, &Fields::zero());
+    }
+}

@@ -1,0 +1,16 @@
+//! Tests of the proved library against document 01: outside vectors, its marked words, and a second implementation on random words,
+//! damaged inputs and lists of tracker calls. The vectors are run on the second implementation as well. Seeds are fixed; a test that
+//! fails prints its word or its calls.
+#![forbid(unsafe_code)]
+mod damaged;
+mod header;
+mod histories;
+mod interface;
+mod made_trackers;
+mod marked_words;
+mod peers;
+mod random_words;
+mod records;
+mod reports;
+mod support;
+mod vectors;

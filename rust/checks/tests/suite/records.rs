@@ -1,0 +1,276 @@
+//! Reads the records of tests/data/base.txt. Lines that begin with # say how they are written.
+use checks::calls::Answer;
+use checks::reference::{pairs, Pair};
+use luffbutton::{Fields, Head, Period, BOARD, LONGEST};
+use std::collections::HashMap;
+
+const TEXT: &str = include_str!("../data/base.txt");
+
+/// A word with everything that document 01 defines of it.
+pub struct WordRecord {
+    pub word: Vec<u8>,
+    pub plain_trials: usize,
+    pub skipping_trials: usize,
+    pub s: usize,
+    pub t: usize,
+    pub full: Vec<usize>,
+    pub periods: Vec<Pair>,
+    /// Half length and start.
+    pub squares: Vec<(usize, usize)>,
+    /// Every length that the search for a cover may answer.
+    pub covers: Vec<usize>,
+    pub board: [u8; BOARD],
+    /// The block and the letter of the judge's first failure, by head and period.
+    pub failures: HashMap<(usize, usize), (usize, usize)>,
+    pub report: Vec<u32>,
+}
+
+/// A word that every call refuses, with number and value.
+pub struct RefusedRecord {
+    pub word: Vec<u8>,
+    pub answer: Answer,
+}
+
+/// A pair that the judge refuses.
+pub struct RangeRecord {
+    pub word: Vec<u8>,
+    pub head: Head,
+    pub period: Period,
+    pub answer: Answer,
+}
+
+/// A tracker call.
+#[derive(Clone, Copy, Debug)]
+pub enum Call {
+    Add(u8),
+    TakeBack,
+    Clear,
+    /// With so many places.
+    List(usize),
+}
+
+/// A tracker call and what it answers; for a list, the words too.
+pub struct Answered {
+    pub call: Call,
+    pub answer: Answer,
+    pub words: Vec<u32>,
+}
+
+/// Calls on a tracker, and its fields before and afterwards: from a fresh tracker, or one call on a tracker that no calls have made.
+pub struct CallsRecord {
+    pub line: usize,
+    pub before: Fields,
+    pub calls: Vec<Answered>,
+    pub after: Fields,
+}
+
+/// All records of the file, by kind.
+#[derive(Default)]
+pub struct Records {
+    pub words: Vec<WordRecord>,
+    pub refused: Vec<RefusedRecord>,
+    pub ranges: Vec<RangeRecord>,
+    pub histories: Vec<CallsRecord>,
+    pub made: Vec<CallsRecord>,
+}
+
+/// A line: its number, its first word, and the rest.
+type Line = (usize, &'static str, &'static str);
+
+fn numbers(text: &str) -> Vec<usize> {
+    let number = |x: &str| x.parse().unwrap_or_else(|_| panic!("{x} is no number"));
+    text.split_whitespace().map(number).collect()
+}
+
+/// Of `1,2,a 3,4,b`: the numbers of each part, a letter by its byte.
+fn parts(text: &str) -> Vec<Vec<usize>> {
+    let number = |x: &str| x.parse().unwrap_or_else(|_| usize::from(x.as_bytes()[0]));
+    let part = |x: &str| x.split(',').map(number).collect();
+    text.split_whitespace().map(part).collect()
+}
+
+/// The two sides of an arrow: the text before it, and the numbers behind it.
+fn sides(text: &'static str) -> (&'static str, Vec<usize>) {
+    let (left, right) = text.split_once("->").expect("an arrow");
+    (left.trim(), numbers(right))
+}
+
+/// The answer of a refusal, or of a call that is accepted without numbers.
+fn answer(numbers: &[usize]) -> Answer {
+    Answer {
+        number: numbers[0],
+        value: numbers[1],
+        ..Answer::default()
+    }
+}
+
+fn word(text: &str) -> Vec<u8> {
+    let text = if text == "-" { "" } else { text };
+    text.as_bytes().to_vec()
+}
+
+/// The place of each pair on a board.
+fn places() -> HashMap<(usize, usize), usize> {
+    let key = |pair: Pair| (pair.head.0, pair.period.0);
+    let all = pairs(LONGEST).into_iter().enumerate();
+    all.map(|(place, pair)| (key(pair), place)).collect()
+}
+
+/// A board from its entries that are not 0: head, period, entry.
+fn board(text: &str) -> [u8; BOARD] {
+    let places = places();
+    let mut board = [0; BOARD];
+    for part in parts(text) {
+        board[places[&(part[0], part[1])]] = part[2] as u8;
+    }
+    board
+}
+
+fn word_record(lines: &[Line]) -> WordRecord {
+    let rows: HashMap<&str, &str> = lines
+        .iter()
+        .map(|&(_, first, rest)| (first, rest))
+        .collect();
+    let (trials, scaled) = (numbers(rows["trials"]), numbers(rows["scaled"]));
+    let pair = |x: Vec<usize>| Pair {
+        head: Head(x[0]),
+        period: Period(x[1]),
+    };
+    let failure = |x: Vec<usize>| ((x[0], x[1]), (x[2], x[3]));
+    WordRecord {
+        word: word(rows["word"]),
+        plain_trials: trials[0],
+        skipping_trials: trials[1],
+        s: scaled[0],
+        t: scaled[1],
+        full: numbers(rows["full"]),
+        periods: parts(rows["period"]).into_iter().map(pair).collect(),
+        squares: parts(rows["square"]).iter().map(|x| (x[0], x[1])).collect(),
+        covers: numbers(rows["cover"]),
+        board: board(rows["ended"]),
+        failures: parts(rows["judge"]).into_iter().map(failure).collect(),
+        report: numbers(rows["report"]).iter().map(|&x| x as u32).collect(),
+    }
+}
+
+fn refused_record(rest: &'static str) -> RefusedRecord {
+    let (bytes, due) = sides(rest);
+    RefusedRecord {
+        word: numbers(bytes).iter().map(|&byte| byte as u8).collect(),
+        answer: answer(&due),
+    }
+}
+
+fn range_record(rest: &'static str) -> RangeRecord {
+    let (left, due) = sides(rest);
+    let left: Vec<&str> = left.split_whitespace().collect();
+    RangeRecord {
+        word: word(left[0]),
+        head: Head(numbers(left[1])[0]),
+        period: Period(numbers(left[2])[0]),
+        answer: answer(&due),
+    }
+}
+
+fn answered(line: &Line) -> Answered {
+    let &(_, name, rest) = line;
+    let (left, due) = sides(rest);
+    let argument = || numbers(left)[0];
+    let call = match name {
+        "add" => Call::Add(argument() as u8),
+        "back" => Call::TakeBack,
+        "clear" => Call::Clear,
+        "list" => Call::List(argument()),
+        other => panic!("{other} is no call"),
+    };
+    let words: Vec<u32> = due[2..].iter().map(|&x| x as u32).collect();
+    Answered {
+        call,
+        answer: Answer {
+            written: words.len(),
+            ..answer(&due)
+        },
+        words,
+    }
+}
+
+/// A tracker that holds the letters, with the entries.
+fn holding(letters: &str, entries: &str) -> Fields {
+    let mut fields = Fields::zero();
+    fields.length = letters.len();
+    fields.bytes[..letters.len()].copy_from_slice(letters.as_bytes());
+    fields.board = board(entries);
+    fields
+}
+
+fn history_record(lines: &[Line]) -> CallsRecord {
+    let [(line, ..), calls @ .., (_, "holds", letters), (_, "board", entries)] = lines else {
+        panic!("line {}: no history", lines[0].0);
+    };
+    CallsRecord {
+        line: *line,
+        before: Fields::zero(),
+        calls: calls.iter().map(answered).collect(),
+        after: holding(letters, entries),
+    }
+}
+
+/// A tracker by its fields: the length, the bytes that are not 0 by place, the entries that are not 0 by pair.
+fn fields(text: &str) -> Fields {
+    let columns: Vec<&str> = text.split('|').collect();
+    let mut fields = Fields::zero();
+    fields.length = numbers(columns[0])[0];
+    for part in parts(columns[1]) {
+        fields.bytes[part[0]] = part[1] as u8;
+    }
+    fields.board = board(columns[2]);
+    fields
+}
+
+fn made_record(lines: &[Line]) -> CallsRecord {
+    let [(line, _, before), call, (_, "after", after)] = lines else {
+        panic!("line {}: no made tracker", lines[0].0);
+    };
+    CallsRecord {
+        line: *line,
+        before: fields(before),
+        calls: vec![answered(call)],
+        after: fields(after),
+    }
+}
+
+/// The file's lines, a group for each record: a record begins at a line with one of the five first words.
+fn groups() -> Vec<Vec<Line>> {
+    let mut groups: Vec<Vec<Line>> = Vec::new();
+    for (number, line) in (1..).zip(TEXT.lines()) {
+        if line.starts_with('#') {
+            continue;
+        }
+        let (first, rest) = line.split_once(' ').unwrap_or((line, ""));
+        if matches!(
+            first,
+            "word" | "refused" | "judge-range" | "history" | "made"
+        ) {
+            groups.push(Vec::new());
+        }
+        let group = groups.last_mut().expect("a record's first line");
+        group.push((number, first, rest));
+    }
+    groups
+}
+
+/// Reads the whole file.
+pub fn read() -> Records {
+    let mut records = Records::default();
+    for lines in groups() {
+        let (_, first, rest) = lines[0];
+        match first {
+            "word" => records.words.push(word_record(&lines)),
+            "refused" => records.refused.push(refused_record(rest)),
+            "judge-range" => records.ranges.push(range_record(rest)),
+            "history" => records.histories.push(history_record(&lines)),
+            _ => records.made.push(made_record(&lines)),
+        }
+    }
+    records
+}

@@ -1,0 +1,293 @@
+//! The outside vectors, each kind of record on the library and on the second implementation.
+use crate::records::{read, Answered, Call, CallsRecord, WordRecord};
+use crate::support::{
+    assert_same_fields, filled, lent, marks, places_enough, shown, Shown, LIST_CALLS,
+};
+use checks::calls::{Answer, Calls};
+use checks::library::Library;
+use checks::reference::{ended_length, pairs, Machine, Pair, Prefixes, Reference};
+use luffbutton::{Fields, Head, Period};
+
+#[test]
+fn the_file_has_its_records() {
+    let records = read();
+    let made_lists = |calls: &[CallsRecord]| calls.iter().map(|x| x.calls.len()).sum::<usize>();
+    assert_eq!(records.words.len(), 179);
+    assert_eq!(records.refused.len(), 23);
+    assert_eq!(records.ranges.len(), 8);
+    assert_eq!(records.histories.len(), 60);
+    assert_eq!(records.made.len(), 60);
+    assert_eq!(
+        made_lists(&records.histories) + made_lists(&records.made),
+        1336
+    );
+}
+
+/// The words that a list call is to write, and its numbers, by the record.
+fn due_list(name: &str, record: &WordRecord) -> (Vec<u32>, Answer) {
+    let word = |kind: u32, upper: usize, lower: usize| {
+        kind * (1 << 28) + upper as u32 * (1 << 14) + lower as u32
+    };
+    let period = |pair: &Pair| word(1, pair.period.0, pair.head.0);
+    let periods = || record.periods.iter().map(period).collect();
+    let square = |&(half, start): &(usize, usize)| word(2, half, start);
+    let full = |&p: &usize| word(3, p, record.word.len() / p);
+    let (words, mut answer): (Vec<u32>, Answer) = (
+        match name {
+            "list_plain" | "list_skipping" => periods(),
+            "list_full" | "list_full_scaled" => record.full.iter().map(full).collect(),
+            "list_squares" => record.squares.iter().map(square).collect(),
+            _ => record.report.clone(),
+        },
+        Answer::default(),
+    );
+    answer.written = words.len();
+    match name {
+        "list_plain" => answer.trials = record.plain_trials,
+        "list_skipping" => answer.trials = record.skipping_trials,
+        "list_full_scaled" => (answer.s, answer.t) = (record.s, record.t),
+        _ => {}
+    }
+    (words, answer)
+}
+
+/// Each list call with as many places as it needs, with more, and with one too few.
+fn lists_agree(calls: &dyn Calls, record: &WordRecord) {
+    for (name, call) in LIST_CALLS {
+        let (words, due) = due_list(name, record);
+        for places in [words.len(), words.len() + 5] {
+            let (answer, out) = lent(places, |out| call(calls, &record.word, out));
+            assert_eq!(answer, due, "{name}");
+            assert_eq!(out, filled(&words, places), "{name}");
+        }
+        if let Some(short) = words.len().checked_sub(1) {
+            let (answer, out) = lent(short, |out| call(calls, &record.word, out));
+            assert_eq!(
+                answer,
+                Answer::refused(3, words.len()),
+                "{name}, a place short"
+            );
+            assert_eq!(out, marks(short), "{name}, a place short");
+        }
+    }
+}
+
+fn cover_agrees(calls: &dyn Calls, record: &WordRecord) {
+    let answer = calls.find_cover(&record.word);
+    let due = Answer {
+        yes: usize::from(!record.covers.is_empty()),
+        cover: answer.cover,
+        ..Answer::default()
+    };
+    assert_eq!(answer, due);
+    if record.covers.is_empty() {
+        assert_eq!(answer.cover, 0);
+    } else {
+        assert!(
+            record.covers.contains(&answer.cover),
+            "{} is no cover length",
+            answer.cover
+        );
+    }
+}
+
+/// The judge on every pair in range.
+fn judge_agrees(calls: &dyn Calls, record: &WordRecord) {
+    for pair in pairs(record.word.len()) {
+        let answer = calls.judge(&record.word, pair.head, pair.period);
+        let due = match record.failures.get(&(pair.head.0, pair.period.0)) {
+            None => Answer {
+                yes: 1,
+                ..Answer::default()
+            },
+            Some(&(block, letter)) => Answer {
+                block,
+                letter,
+                ..Answer::default()
+            },
+        };
+        assert_eq!(answer, due, "judge {pair:?}");
+    }
+}
+
+fn words_agree(calls: &dyn Calls) {
+    for record in read().words {
+        let _shown = shown(&record.word);
+        lists_agree(calls, &record);
+        cover_agrees(calls, &record);
+        judge_agrees(calls, &record);
+    }
+}
+
+#[test]
+fn words_on_the_library() {
+    words_agree(&Library);
+}
+
+#[test]
+fn words_on_the_reference() {
+    words_agree(&Reference);
+}
+
+/// A tracker to which the letters of each word are added has its ended lengths on the board, and lists its periods.
+fn ended_lengths_agree(calls: &dyn Calls) {
+    for record in read().words {
+        let _shown = shown(&record.word);
+        let mut tracker = Fields::zero();
+        for &letter in &record.word {
+            assert_eq!(calls.add(&mut tracker, letter), Answer::default());
+        }
+        let mut due = Fields::zero();
+        due.length = record.word.len();
+        due.bytes[..due.length].copy_from_slice(&record.word);
+        due.board = record.board;
+        assert_same_fields(&tracker, &due);
+        let (words, _) = due_list("list_plain", &record);
+        let (answer, out) = lent(words.len() + 5, |out| calls.list(&tracker, out));
+        assert_eq!((answer.number, answer.written), (0, words.len()));
+        assert_eq!(out, filled(&words, words.len() + 5));
+        assert_same_fields(&tracker, &due);
+    }
+}
+
+#[test]
+fn ended_lengths_on_the_library() {
+    ended_lengths_agree(&Library);
+}
+
+#[test]
+fn ended_lengths_on_the_reference() {
+    ended_lengths_agree(&Reference);
+}
+
+#[test]
+fn ended_lengths_by_definition() {
+    for record in read().words.iter().filter(|x| x.word.len() <= 100) {
+        let _shown = shown(&record.word);
+        let all = pairs(luffbutton::LONGEST).into_iter();
+        let entries = all.map(|pair| ended_length(&record.word, pair) as u8);
+        assert!(entries.eq(record.board));
+        let mut prefixes = Prefixes::default();
+        prefixes.follow(&record.word);
+        assert!(prefixes.board() == record.board);
+    }
+}
+
+/// Every call that reads a word refuses it, with every other number 0, and leaves the slice as it came.
+fn refused_words_agree(calls: &dyn Calls) {
+    for record in read().refused {
+        let _shown = shown(&record.word);
+        for (name, call) in LIST_CALLS {
+            for places in [0, 2, places_enough(record.word.len())] {
+                let (answer, out) = lent(places, |out| call(calls, &record.word, out));
+                assert_eq!(answer, record.answer, "{name}");
+                assert_eq!(out, marks(places), "{name}");
+            }
+        }
+        assert_eq!(calls.find_cover(&record.word), record.answer);
+        for (h, p) in [(0, 1), (1, 1), (0, usize::MAX)] {
+            let answer = calls.judge(&record.word, Head(h), Period(p));
+            assert_eq!(answer, record.answer, "judge ({h}, {p})");
+        }
+    }
+}
+
+#[test]
+fn refused_words_on_the_library() {
+    refused_words_agree(&Library);
+}
+
+#[test]
+fn refused_words_on_the_reference() {
+    refused_words_agree(&Reference);
+}
+
+fn ranges_agree(calls: &dyn Calls) {
+    for record in read().ranges {
+        let _shown = shown(&record.word);
+        let answer = calls.judge(&record.word, record.head, record.period);
+        assert_eq!(
+            answer, record.answer,
+            "{:?} {:?}",
+            record.head, record.period
+        );
+    }
+}
+
+#[test]
+fn pairs_out_of_range_on_the_library() {
+    ranges_agree(&Library);
+}
+
+#[test]
+fn pairs_out_of_range_on_the_reference() {
+    ranges_agree(&Reference);
+}
+
+/// The call's answer, and for a list the slice afterwards.
+fn step(calls: &dyn Calls, tracker: &mut Fields, call: Call) -> (Answer, Vec<u32>) {
+    match call {
+        Call::Add(letter) => (calls.add(tracker, letter), Vec::new()),
+        Call::TakeBack => (calls.take_back(tracker), Vec::new()),
+        Call::Clear => (calls.clear(tracker), Vec::new()),
+        Call::List(places) => lent(places, |out| calls.list(tracker, out)),
+    }
+}
+
+/// Asserts that a call's answer and slice are the record's.
+fn assert_answered(due: &Answered, answer: Answer, out: &[u32]) {
+    assert_eq!(answer, due.answer, "{:?}", due.call);
+    if let Call::List(places) = due.call {
+        assert_eq!(out, filled(&due.words, places), "{:?}", due.call);
+    }
+}
+
+fn calls_agree(calls: &dyn Calls, records: &[CallsRecord]) {
+    for record in records {
+        let _shown = Shown(format!("the record of line {}", record.line));
+        let mut tracker = record.before.clone();
+        for due in &record.calls {
+            let (answer, out) = step(calls, &mut tracker, due.call);
+            assert_answered(due, answer, &out);
+        }
+        assert_same_fields(&tracker, &record.after);
+    }
+}
+
+#[test]
+fn histories_on_the_library() {
+    calls_agree(&Library, &read().histories);
+}
+
+#[test]
+fn histories_on_the_reference() {
+    calls_agree(&Reference, &read().histories);
+}
+
+#[test]
+fn histories_on_the_machine() {
+    for record in read().histories {
+        let _shown = Shown(format!("the record of line {}", record.line));
+        let mut machine = Machine::default();
+        for due in &record.calls {
+            let (answer, out) = match due.call {
+                Call::Add(letter) => (machine.add(letter), Vec::new()),
+                Call::TakeBack => (machine.take_back(), Vec::new()),
+                Call::Clear => (machine.clear(), Vec::new()),
+                Call::List(places) => lent(places, |out| machine.list(out)),
+            };
+            assert_answered(due, answer, &out);
+        }
+        assert_eq!(machine.letters, record.after.bytes[..record.after.length]);
+    }
+}
+
+#[test]
+fn made_trackers_on_the_library() {
+    calls_agree(&Library, &read().made);
+}
+
+#[test]
+fn made_trackers_on_the_reference() {
+    calls_agree(&Reference, &read().made);
+}

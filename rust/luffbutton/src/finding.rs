@@ -1,0 +1,68 @@
+//! What the words of a list say.
+use crate::vocabulary::{Head, Period};
+
+/// What a word of a list says.
+#[derive(Clone, Copy, Debug, PartialEq, Eq)]
+pub enum Finding {
+    /// Kind 1: an Abelian period.
+    Period {
+        /// The length of its head.
+        head: Head,
+        /// The length of its blocks.
+        period: Period,
+    },
+    /// Kind 2: an Abelian square.
+    Square {
+        /// The length of a half.
+        half: usize,
+        /// The first position.
+        start: usize,
+    },
+    /// Kind 3: a full period.
+    Full {
+        /// The length of its blocks.
+        period: Period,
+        /// How many blocks the word has.
+        blocks: usize,
+    },
+    /// Kind 8: a report's first word.
+    ReportHead {
+        /// The word's length.
+        length: usize,
+        /// Whether a cover exists.
+        cover: bool,
+    },
+}
+
+impl Finding {
+    /// What the word says, or none where its kind is not one of these.
+    pub fn of(word: u32) -> Option<Finding> {
+        let upper = (word >> 14 & 0x3fff) as usize;
+        let lower = (word & 0x3fff) as usize;
+        match word >> 28 {
+            1 => Some(Finding::Period {
+                head: Head(lower),
+                period: Period(upper),
+            }),
+            2 => Some(Finding::Square {
+                half: upper,
+                start: lower,
+            }),
+            3 => Some(Finding::Full {
+                period: Period(upper),
+                blocks: lower,
+            }),
+            8 => Some(Finding::ReportHead {
+                length: upper,
+                cover: lower == 1,
+            }),
+            _ => None,
+        }
+    }
+}
+
+/// What the words of a list say, in their order. The words are those that a list call has written, `&out[..written]`; one of another kind
+/// is passed over.
+pub fn findings(words: &[u32]) -> impl DoubleEndedIterator<Item = Finding> + Clone + '_ {
+    words.iter().filter_map(|&word| Finding::of(word))
+}

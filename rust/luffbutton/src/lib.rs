@@ -1,0 +1,42 @@
+//! Luffbutton finds cycles in event words: Abelian periods, full periods, Abelian squares and covers of a word, and a tracker that
+//! knows the periods of a word while letters join its end and are taken back. This crate is a safe interface over the proved
+//! library's C interface; the header `include/luffbutton.h` defines the terms.
+//!
+//! A word is a slice of letters, the bytes `a` to `p`, [`LONGEST`] at most. Every call takes any input; what it cannot do it
+//! refuses, with a reason of its own type ([`Refusal`]). A refused call changes nothing; only a [`Tracker::replay`] whose list is
+//! refused has still made its calls. Heads and periods are types of their own, answers are enums and structs, and a tracker is made
+//! and changed by its calls alone. Nothing is allocated.
+//!
+//! A list is written to the first places of a lent slice of 32-bit words, and [`findings`] reads it:
+//!
+//! ```
+//! use luffbutton::{findings, Finding, Head, Period, Tracker};
+//!
+//! let mut tracker = Tracker::fresh();
+//! for letter in *b"abb" {
+//!     tracker.add(letter).unwrap();
+//! }
+//! tracker.take_back().unwrap();
+//! let mut out = [0; 8];
+//! let written = tracker.list(&mut out).unwrap();
+//! let (head, period) = (Head(0), Period(2));
+//! assert!(findings(&out[..written]).eq([Finding::Period { head, period }]));
+//! ```
+#![no_std]
+#![deny(missing_docs)]
+#![deny(unsafe_code)]
+
+mod finding;
+pub mod numbers;
+mod refusal;
+mod tracker;
+mod vocabulary;
+mod words;
+
+pub use finding::{findings, Finding};
+pub use refusal::Refusal;
+pub use tracker::Tracker;
+pub use vocabulary::{Fields, Head, Period, BOARD, CLEAR, FIRST_LETTER, LETTERS, LONGEST};
+pub use vocabulary::{MOST_FULL, MOST_PERIODS, MOST_REPORT, MOST_SQUARES, TAKE_BACK};
+pub use words::{find_cover, judge, list_full, list_full_scaled, list_plain, list_skipping};
+pub use words::{list_squares, report, Cover, Listed, Scaled, Verdict};

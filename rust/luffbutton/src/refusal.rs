@@ -1,0 +1,65 @@
+//! Why a call was refused.
+
+/// Why a call was refused: a line of document 01's table each.
+#[derive(Clone, Copy, Debug, PartialEq, Eq)]
+pub enum Refusal {
+    /// 1: the word has more letters than the longest word.
+    TooLong,
+    /// 2: a byte is no letter.
+    NotALetter {
+        /// The first such position, counted from 1; 1 for an add.
+        position: usize,
+    },
+    /// 3: the list is longer than the slice.
+    SliceTooShort {
+        /// The words needed.
+        needed: usize,
+    },
+    /// 4: an add at the longest word.
+    TrackerFull,
+    /// 5: a take-back at length 0.
+    TrackerEmpty,
+    /// 6: the tracker's length is too large, or a byte within it is no letter. No tracker made by its calls is damaged.
+    TrackerDamaged,
+    /// 7: the judge's pair is out of range for the word.
+    PairOutOfRange,
+}
+
+impl Refusal {
+    /// What a call's first two numbers say: nothing where it is accepted, else the refusal.
+    pub(crate) fn check(number: usize, value: usize) -> Result<(), Refusal> {
+        match number {
+            0 => Ok(()),
+            1 => Err(Refusal::TooLong),
+            2 => Err(Refusal::NotALetter { position: value }),
+            3 => Err(Refusal::SliceTooShort { needed: value }),
+            4 => Err(Refusal::TrackerFull),
+            5 => Err(Refusal::TrackerEmpty),
+            6 => Err(Refusal::TrackerDamaged),
+            7 => Err(Refusal::PairOutOfRange),
+            _ => unreachable!("the library has no refusal {number}"),
+        }
+    }
+
+    /// The refusal's number in document 01's table.
+    pub fn number(self) -> usize {
+        match self {
+            Refusal::TooLong => 1,
+            Refusal::NotALetter { .. } => 2,
+            Refusal::SliceTooShort { .. } => 3,
+            Refusal::TrackerFull => 4,
+            Refusal::TrackerEmpty => 5,
+            Refusal::TrackerDamaged => 6,
+            Refusal::PairOutOfRange => 7,
+        }
+    }
+
+    /// The refusal's value: a position, the words needed, or 0.
+    pub fn value(self) -> usize {
+        match self {
+            Refusal::NotALetter { position } => position,
+            Refusal::SliceTooShort { needed } => needed,
+            _ => 0,
+        }
+    }
+}

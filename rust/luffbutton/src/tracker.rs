@@ -1,0 +1,69 @@
+//! The tracker.
+use crate::numbers;
+use crate::refusal::Refusal;
+use crate::vocabulary::Fields;
+use crate::words::written;
+
+/// A word that grows and shrinks by letters, with its Abelian periods known at every moment.
+#[derive(Clone, PartialEq, Eq)]
+pub struct Tracker {
+    fields: Fields,
+}
+
+impl Default for Tracker {
+    fn default() -> Tracker {
+        Tracker::fresh()
+    }
+}
+
+impl Tracker {
+    /// A tracker that holds the empty word.
+    pub fn fresh() -> Tracker {
+        let mut fields = Fields::zero();
+        numbers::fresh(&mut fields);
+        Tracker { fields }
+    }
+
+    /// A fresh tracker after a list of calls, one byte each: [`TAKE_BACK`](crate::TAKE_BACK) takes back, [`CLEAR`](crate::CLEAR)
+    /// clears, any other byte is added. Then one list to `out`. Returns the tracker, the number of calls refused, and what the list
+    /// answered; where the list is refused with 3, the tracker and the number are those of the calls all the same. Its time grows
+    /// with the number of calls.
+    pub fn replay(calls: &[u8], out: &mut [u32]) -> (Tracker, usize, Result<usize, Refusal>) {
+        let mut fields = Fields::zero();
+        let answer = numbers::replay(&mut fields, calls, out);
+        let listed = Refusal::check(answer.refusal, answer.value).map(|()| answer.written);
+        (Tracker { fields }, answer.refused, listed)
+    }
+
+    /// The letter joins the end: refusals 2, 4.
+    pub fn add(&mut self, letter: u8) -> Result<(), Refusal> {
+        let answer = numbers::add(&mut self.fields, letter);
+        Refusal::check(answer.refusal, answer.value)
+    }
+
+    /// The last letter goes, and every pair that had ended with it is open again: refusal 5.
+    pub fn take_back(&mut self) -> Result<(), Refusal> {
+        let answer = numbers::take_back(&mut self.fields);
+        Refusal::check(answer.refusal, answer.value)
+    }
+
+    /// Back to the empty word.
+    pub fn clear(&mut self) {
+        numbers::clear(&mut self.fields);
+    }
+
+    /// Writes the Abelian periods of the letters held, by p and then h, and returns how many: refusal 3.
+    pub fn list(&self, out: &mut [u32]) -> Result<usize, Refusal> {
+        written(numbers::list(&self.fields, out))
+    }
+
+    /// The letters held.
+    pub fn letters(&self) -> &[u8] {
+        &self.fields.bytes[..self.fields.length]
+    }
+
+    /// The fields.
+    pub fn fields(&self) -> &Fields {
+        &self.fields
+    }
+}

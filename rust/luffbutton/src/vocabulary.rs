@@ -1,0 +1,65 @@
+//! The sizes, and the types that all calls share.
+
+/// How many letters there are.
+pub const LETTERS: usize = 16;
+
+/// The byte of the letter a, from which the letters go up.
+pub const FIRST_LETTER: u8 = b'a';
+
+/// The longest word.
+pub const LONGEST: usize = 240;
+
+/// A board's entries, one for each pair in range for the longest word.
+pub const BOARD: usize = 14520;
+
+/// The most words that a list of periods can have.
+pub const MOST_PERIODS: usize = BOARD;
+
+/// The most words that a list of squares can have.
+pub const MOST_SQUARES: usize = 14400;
+
+/// The most words that a list of full periods can have.
+pub const MOST_FULL: usize = 20;
+
+/// The most words that a report can have: its head and the three lists.
+pub const MOST_REPORT: usize = 1 + MOST_FULL + MOST_PERIODS + MOST_SQUARES;
+
+/// The byte that takes back the last letter in a list of calls for a replay.
+pub const TAKE_BACK: u8 = b'-';
+
+/// The byte that clears the tracker in a list of calls for a replay.
+pub const CLEAR: u8 = b'!';
+
+/// The length of a head. It is never taken for a period's length.
+#[repr(C)]
+#[derive(Clone, Copy, Debug, PartialEq, Eq, PartialOrd, Ord)]
+pub struct Head(pub usize);
+
+/// The length of a block. It is never taken for a head's length.
+#[repr(C)]
+#[derive(Clone, Copy, Debug, PartialEq, Eq, PartialOrd, Ord)]
+pub struct Period(pub usize);
+
+/// A tracker's fields, laid out as `struct luff_tracker` of the C interface.
+#[repr(C)]
+#[derive(Clone, PartialEq, Eq)]
+pub struct Fields {
+    /// How many letters it holds.
+    pub length: usize,
+    /// The letters, and 0 beyond the length.
+    pub bytes: [u8; LONGEST],
+    /// The ended length of each pair in range for the longest word, by p and then h: the smallest m from h + p to the length at which
+    /// the pair is no Abelian period of the first m letters, or 0.
+    pub board: [u8; BOARD],
+}
+
+impl Fields {
+    /// All zero: the fields of a fresh tracker.
+    pub const fn zero() -> Fields {
+        Fields {
+            length: 0,
+            bytes: [0; LONGEST],
+            board: [0; BOARD],
+        }
+    }
+}

@@ -1,0 +1,116 @@
+//! The calls on a word.
+use crate::numbers;
+use crate::refusal::Refusal;
+use crate::vocabulary::{Head, Period};
+
+/// What the judge says of a pair in range.
+#[derive(Clone, Copy, Debug, PartialEq, Eq)]
+pub enum Verdict {
+    /// The pair is an Abelian period of the word.
+    Yes,
+    /// It is none.
+    No {
+        /// The first block that breaks the rule against block 1; 0 is the head, and the tail comes behind the last whole block.
+        block: usize,
+        /// The first letter in it that does, in letter order.
+        letter: u8,
+    },
+}
+
+/// What the search for a cover finds.
+#[derive(Clone, Copy, Debug, PartialEq, Eq)]
+pub enum Cover {
+    /// The first and the last so many letters have equal vectors and cover the word.
+    Length(usize),
+    /// No set of intervals covers the word.
+    Nothing,
+}
+
+/// What a lister of periods did.
+#[derive(Clone, Copy, Debug, PartialEq, Eq)]
+pub struct Listed {
+    /// The words written to the first places.
+    pub written: usize,
+    /// The pairs tried.
+    pub trials: usize,
+}
+
+/// What the list by scaled positions did.
+#[derive(Clone, Copy, Debug, PartialEq, Eq)]
+pub struct Scaled {
+    /// The words written to the first places.
+    pub written: usize,
+    /// The word's length divided by the greatest common divisor of its letter counts; 0 for the empty word.
+    pub s: usize,
+    /// T: the greatest distance between neighbouring scaled positions, divided by s; 0 for the empty word.
+    pub t: usize,
+}
+
+/// Judges a pair: refusals 1, 2, 7.
+pub fn judge(word: &[u8], head: Head, period: Period) -> Result<Verdict, Refusal> {
+    let answer = numbers::judge(word, head, period);
+    Refusal::check(answer.refusal, answer.value)?;
+    Ok(match answer.yes {
+        1 => Verdict::Yes,
+        _ => Verdict::No {
+            block: answer.block,
+            letter: answer.letter as u8,
+        },
+    })
+}
+
+/// Writes all Abelian periods, by p and then h, and tries every pair in range: refusals 1, 2, 3.
+pub fn list_plain(word: &[u8], out: &mut [u32]) -> Result<Listed, Refusal> {
+    listed(numbers::list_plain(word, out))
+}
+
+/// The same list by document 004's bounds, with no more pairs tried: refusals 1, 2, 3.
+pub fn list_skipping(word: &[u8], out: &mut [u32]) -> Result<Listed, Refusal> {
+    listed(numbers::list_skipping(word, out))
+}
+
+fn listed(answer: numbers::Listed) -> Result<Listed, Refusal> {
+    Refusal::check(answer.refusal, answer.value)?;
+    let (written, trials) = (answer.written, answer.trials);
+    Ok(Listed { written, trials })
+}
+
+/// Writes the full periods by rising p, and returns how many: refusals 1, 2, 3.
+pub fn list_full(word: &[u8], out: &mut [u32]) -> Result<usize, Refusal> {
+    written(numbers::list_full(word, out))
+}
+
+/// The same list by scaled positions, with s and T: refusals 1, 2, 3.
+pub fn list_full_scaled(word: &[u8], out: &mut [u32]) -> Result<Scaled, Refusal> {
+    let answer = numbers::list_full_scaled(word, out);
+    Refusal::check(answer.refusal, answer.value)?;
+    let (written, s, t) = (answer.written, answer.s, answer.t);
+    Ok(Scaled { written, s, t })
+}
+
+/// Writes all Abelian squares, by half length and then start, and returns how many: refusals 1, 2, 3.
+pub fn list_squares(word: &[u8], out: &mut [u32]) -> Result<usize, Refusal> {
+    written(numbers::list_squares(word, out))
+}
+
+/// Writes a report, which is its head, full periods, periods and squares, and returns how many words: refusals 1, 2, 3. A slice of
+/// [`MOST_REPORT`](crate::MOST_REPORT) places or more is never too short, so that the report is not counted before it is written.
+pub fn report(word: &[u8], out: &mut [u32]) -> Result<usize, Refusal> {
+    written(numbers::report(word, out))
+}
+
+/// How many words a list call has written, or its refusal.
+pub(crate) fn written(answer: numbers::Wrote) -> Result<usize, Refusal> {
+    Refusal::check(answer.refusal, answer.value)?;
+    Ok(answer.written)
+}
+
+/// Looks for a cover: refusals 1, 2.
+pub fn find_cover(word: &[u8]) -> Result<Cover, Refusal> {
+    let answer = numbers::find_cover(word);
+    Refusal::check(answer.refusal, answer.value)?;
+    Ok(match answer.yes {
+        1 => Cover::Length(answer.length),
+        _ => Cover::Nothing,
+    })
+}
