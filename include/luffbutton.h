@@ -11,9 +11,9 @@
  * and needs three of the C library: memcpy, memmove and memset.
  *
  * TERMS. A word is n bytes, each a letter: LUFF_FIRST_LETTER and the bytes behind it, LUFF_LETTERS in all, a to p. It has LUFF_LONGEST
- * letters at most and may have none. Positions count from 1. The counts of some letters that stand side by side are the number of a's among
- * them, the number of b's, and so on to p. They are contained in others when no count of theirs exceeds the others' count of the same
- * letter, and they are fewer in all.
+ * letters at most and may have none. Positions count from 1. A stretch is letters of the word that stand side by side, or no letters; its
+ * counts are the number of a's in it, the number of b's, and so on to p. A stretch is contained in another when none of its counts exceeds
+ * the other's count of the same letter, and it has fewer letters.
  *
  * A pair (h, p), the length of a head and the length of a period, is in range for n when p >= 1, h < p and h + p <= n. A pair in range is
  * an Abelian period of the word when the word is a head of h letters, one or more whole blocks of p letters with equal counts, and a tail
@@ -41,8 +41,8 @@
  * ANSWERS. Each call takes any bytes, any length and any number of places, and returns a struct of numbers. `refusal` is 0 where the call
  * is accepted (luff_tracker_fresh, which returns nothing, always is), else one of enum luff_refusal; `value` is the refusal's value, 0
  * where it has none and where the call is accepted. Of a refused call all other numbers are 0, and neither the places nor the tracker are
- * changed. There is one exception: a luff_tracker_replay whose list is refused has made its calls, so that the tracker is changed, and
- * `refused` has their number.
+ * changed. There is one exception: a luff_tracker_replay whose list is refused with 3 has still made its calls. Its tracker is as they
+ * leave it, and `refused` says how many of them were refused.
  *
  * WHAT A CALLER OWES. No pointer is NULL, also not that of an empty word or of no places: pass any address of the program's, such as that
  * of a variable of the pointer's type. A pointer leads to as many bytes or places as are said, aligned as its type asks. What a call may
@@ -54,17 +54,18 @@
  * only reads it. An interrupt or a signal handler may make any call, on data that the interrupted program is not using in a call; it needs
  * the stack given below, and the processor's SSE registers, as other code of its platform does.
  *
- * STACK AND TIME. The bytes of stack that a call takes at most, beyond the word, the places and the tracker that it is lent, have a
- * macro each below; examples/c/stack_use.c measures them. How the time grew from n = 120 to n = 240 where it was measured
- * (docs/PERFORMANCE.md), as n to the power:
+ * STACK AND TIME. The macros LUFF_STACK_.. below limit the bytes of stack that a call takes beyond the word, the places and the tracker that
+ * it is lent. They are measured and not proved: examples/c/stack_use.c makes each call in several ways and fails above them. How the time
+ * grows was measured from 120 to 240 letters on words of six kinds, as n to the power (docs/PERFORMANCE.md, which has the times too):
  *
- *     luff_list_plain, luff_list_skipping     1.8 to 2.2
- *     luff_list_squares, luff_report          1.8 to 1.9
- *     luff_tracker_add                        1.6 to 1.8, n being the letters held
- *     luff_list_full_scaled                   0.4 to 1.0
+ *     luff_list_plain                               1.8 to 2.2
+ *     luff_list_skipping                            1.8 to 1.9
+ *     luff_list_squares, luff_report                1.8 to 1.9
+ *     luff_tracker_add, n being the letters held    1.6 to 1.8
+ *     luff_list_full_scaled                         0.4 to 1.0
  *
- * A luff_tracker_replay takes a time that grows with the number of its calls, of which each takes at most as long as an add to 239 letters;
- * there is no bound on that number. luff_tracker_fresh and luff_tracker_clear write a whole tracker, whatever it holds.
+ * The time of a luff_tracker_replay grows with the number of its calls, each of which takes as long as an add at 240 letters at most; that
+ * number has no bound. A luff_tracker_fresh or luff_tracker_clear writes the whole tracker.
  */
 #ifndef LUFFBUTTON_H
 #define LUFFBUTTON_H
@@ -92,14 +93,14 @@ extern "C" {
 
 /*
  * The most words that a list can have: periods, 58,080 bytes; squares, 57,600 bytes; full periods, 80 bytes; a report, 115,764 bytes, which
- * is one word and then the other three. No list of this many places is refused as too short.
+ * is one word and the other three. With so many places no list is too long.
  */
 #define LUFF_MOST_PERIODS 14520
 #define LUFF_MOST_SQUARES 14400
 #define LUFF_MOST_FULL 20
 #define LUFF_MOST_REPORT 28941
 
-/* The most stack that each call takes, in bytes, and that no call exceeds. LUFF_STACK_TRACKER is for each of a tracker's calls. */
+/* The limits on stack, in bytes. LUFF_STACK_TRACKER is for each of a tracker's calls, and LUFF_STACK is the greatest. */
 #define LUFF_STACK_JUDGE 4096
 #define LUFF_STACK_LIST_PLAIN 24576
 #define LUFF_STACK_LIST_SKIPPING 28672
