@@ -8,7 +8,7 @@
  *     cc program.c $(pkg-config --cflags --libs luffbutton)
  *
  * The archive is for x86-64 Linux (System V calls, 64-bit size_t). It has fourteen functions that can be linked, all with the prefix luff_,
- * and needs three of the C library: memcpy, memmove and memset.
+ * and needs two of the C library: memcpy and memset.
  *
  * TERMS. A word is n bytes, each a letter: LUFF_FIRST_LETTER and the bytes behind it, LUFF_LETTERS in all, a to p. It has LUFF_LONGEST
  * letters at most and may have none. Positions count from 1. A stretch is letters of the word that stand side by side, or no letters; its
@@ -58,11 +58,12 @@
  * it is lent. They are measured and not proved: examples/c/stack_use.c makes each call in several ways and fails above them. How the time
  * grows was measured from 120 to 240 letters on words of six kinds, as n to the power (docs/PERFORMANCE.md, which has the times too):
  *
- *     luff_list_plain                               1.8 to 2.2
- *     luff_list_skipping                            1.8 to 1.9
- *     luff_list_squares, luff_report                1.8 to 1.9
- *     luff_tracker_add, n being the letters held    1.6 to 1.8
- *     luff_list_full_scaled                         0.4 to 1.0
+ *     luff_list_plain, luff_list_skipping           1.8 to 2.1
+ *     luff_list_squares, luff_report                1.8 to 2.2
+ *     luff_tracker_add, n being the letters held    1.8 to 2.0
+ *     luff_list_full                                1.0 to 1.2
+ *     luff_find_cover                               1.0
+ *     luff_list_full_scaled, luff_judge             0.5 to 1.0
  *
  * The time of a luff_tracker_replay grows with the number of its calls, each of which takes as long as an add at 240 letters at most; that
  * number has no bound. A luff_tracker_fresh or luff_tracker_clear writes the whole tracker.
