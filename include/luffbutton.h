@@ -8,7 +8,7 @@
  *     cc program.c $(pkg-config --cflags --libs luffbutton)
  *
  * The archive is for x86-64 Linux (System V calls, 64-bit size_t). It has fourteen functions that can be linked, all with the prefix luff_,
- * and needs two of the C library: memcpy and memset.
+ * and needs two of the C library: memcpy and memset. This header is for C99 or later and for C++.
  *
  * TERMS. A word is n bytes, each a letter: LUFF_FIRST_LETTER and the bytes behind it, LUFF_LETTERS in all, a to p. It has LUFF_LONGEST
  * letters at most and may have none. Positions count from 1. A stretch is letters of the word that stand side by side, or no letters; its
@@ -52,21 +52,24 @@
  * AT THE SAME TIME. The library allocates nothing, keeps nothing between calls and takes no lock. Calls may run at the same time where
  * none writes what another reads or writes: calls on different places and trackers, and also several lists of one tracker, since a list
  * only reads it. An interrupt or a signal handler may make any call, on data that the interrupted program is not using in a call; it needs
- * the stack given below, and the processor's SSE registers, as other code of its platform does.
+ * the stack given below, and the processor's SSE registers, as other code of its platform does. The functions use the 128 bytes below the
+ * stack pointer, as System V allows: a signal spares them, and an interrupt handler without an operating system needs a stack of its own.
  *
  * STACK AND TIME. The macros LUFF_STACK_.. below limit the bytes of stack that a call takes beyond the word, the places and the tracker that
  * it is lent. They are measured and not proved: examples/c/stack_use.c makes each call in several ways and fails above them. How the time
  * grows was measured from 120 to 240 letters on words of six kinds, as n to the power (docs/PERFORMANCE.md, which has the times too):
  *
- *     luff_list_plain, luff_list_skipping           1.8 to 2.1
+ *     luff_list_plain, luff_list_skipping           1.8 to 2.2
  *     luff_list_squares, luff_report                1.8 to 2.2
  *     luff_tracker_add, n being the letters held    1.8 to 2.0
  *     luff_list_full                                1.0 to 1.2
  *     luff_find_cover                               1.0
  *     luff_list_full_scaled, luff_judge             0.5 to 1.0
  *
- * The time of a luff_tracker_replay grows with the number of its calls, each of which takes as long as an add at 240 letters at most; that
- * number has no bound. A luff_tracker_fresh or luff_tracker_clear writes the whole tracker.
+ * A luff_tracker_list goes through the entries of the pairs in range for the letters held, about n * n / 4 of them. A luff_tracker_take_back
+ * goes through the whole board, and a luff_tracker_fresh or luff_tracker_clear writes the whole tracker, whatever n is. The time of a
+ * luff_tracker_replay grows with the number of its calls, each of which takes as long as an add at 240 letters at most, and one list comes
+ * behind them; that number has no bound.
  */
 #ifndef LUFFBUTTON_H
 #define LUFFBUTTON_H
@@ -258,6 +261,8 @@ struct luff_cover luff_find_cover(const uint8_t *word, size_t n);
  * A copy of it is a tracker too. But what is kept for long or sent elsewhere should be the letters (bytes, as many as length says), and the
  * tracker be made from them by luff_tracker_replay: a call checks length and letters and not the board, so that a byte of the board that
  * was changed in storage is not seen and lists are wrong from then on; and size_t has another width and order of bytes on other machines.
+ * The letters must not be those inside the tracker that is made, since it is made fresh first: copy them out before. With 0 places the
+ * answer is refusal 3 unless the list is empty, and the tracker is made all the same.
  */
 struct luff_tracker {
     size_t length;

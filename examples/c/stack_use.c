@@ -1,7 +1,7 @@
 /*
  * How much stack each call takes, held against the header's limit. A call is made on a stack of its own that was painted before: the lowest
  * byte that is no longer painted is the lowest that was used, and from that comes off what is used there without a call. Each call is made
- * in several ways, on words of the greatest length and on trackers that hold as many letters as the call can take, accepted and refused;
+ * in several ways, on words of the greatest length and on trackers that hold as many letters as the call can take, a list, an add and a take-back also refused;
  * the one that takes most counts. A tracker is lent by the caller and is not part of it. Prints for each call whether it is within its
  * limit; with an argument it prints the bytes too. The exit status is 1 where a call is above its limit.
  */

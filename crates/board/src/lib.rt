@@ -70,7 +70,7 @@ pub fn count_open(board: &[u8; BOARD], n: usize) -> usize
 }
 
 // The output word of an Abelian period: kind 1, the period above, the head below.
-pub fn period_word(head: Head, period: Period) -> u32
+fn period_word(head: Head, period: Period) -> u32
     requires { ⌜ (head .0 ≤ longest) × (period .0 ≤ longest) ⌝ }
     ensures { λ r. ⌜ r ≡ periodWord (pair (head .0) (period .0)) ⌝ }
 {

@@ -47,7 +47,7 @@ unfolding lettersUnless
 unless-word none out w m i h = h refl
 unless-word (some r) out w m i h = i
 
--- a refusal is not the want of one
+-- a refusal is not none
 some-none : {r : Refusal} → some r ≡ none → ⊥
 some-none e = let z : _≡_ {A = ℕ} 0 1 = cc in omega arith
 

@@ -50,7 +50,7 @@ module _ (w : List ℕ) (b : ℕ) (l : length w < longest) where
   length-W : length W ≡ suc (length w)
   length-W = omega (arith, length-append w (b ∷ []))
 
-  -- a zero in the room behind the word gives way to the letter
+  -- the first zero behind the word is replaced by the letter
   room : replicate {A = ℕ} (longest - length w) 0 ≡ 0 ∷ replicate (longest - length W) 0
   room = let e : longest - length w ≡ suc (longest - length W) = omega (arith, length-W) in rw e
 

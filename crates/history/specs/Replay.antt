@@ -1,4 +1,4 @@
--- The replay of a field log: bytes as calls from a fresh tracker, and then one list.
+-- The replay of a log of calls: bytes as calls from a fresh tracker, and then one list.
 use Prim.Native.Nat.{ℕ, _+_}
 use mathlib.Core.List.{List, [], _∷_, map}
 use lib.Dec.{eqb, ltb}

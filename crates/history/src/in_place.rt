@@ -1,4 +1,4 @@
-// A replay in place: the calls that the bytes of a field log stand for, made on the fields of a tracker that the caller lends, and then one list.
+// A replay in place: the calls that the bytes of a log stand for, made on the fields of a tracker that the caller lends, and then one list.
 use abelian::BOARD;
 use abelian::LONGEST;
 use abelian::Outcome;
@@ -15,10 +15,10 @@ ghost use Rattle.tracker.specs.Fields.{ofFields, asStep};
 ghost use Rattle.history.specs.Calls.{step};
 ghost use Rattle.history.specs.Replay.{callOf, asReplay, replaying};
 
-// The byte of a field log that takes back: `-`.
+// The byte of a log that takes back: `-`.
 const TAKE_BACK: u8 = 45;
 
-// The byte of a field log that clears: `!`.
+// The byte of a log that clears: `!`.
 const CLEAR: u8 = 33;
 
 // What a replay answers: how many of its calls were refused, and what the list answered.
@@ -51,7 +51,7 @@ fn refused_calls(outcome: Outcome) -> usize
     }
 }
 
-// Reads a field log: the lent tracker is made fresh, whatever it was, then the calls that the bytes stand for are made on it, and then one list into
+// Reads a log of calls: the lent tracker is made fresh, whatever it was, then the calls that the bytes stand for are made on it, and then one list into
 // the slice. All of it is what the machine gives for these calls; a list that is refused leaves the tracker as the calls have left it.
 pub fn replay(
     calls: &[u8],

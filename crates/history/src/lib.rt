@@ -17,7 +17,7 @@ pub struct Replayed {
     pub wrote: Wrote,
 }
 
-// Reads a field log: from a fresh tracker the calls that its bytes stand for, and then one list into the slice. All of it is what the
+// Reads a log of calls: from a fresh tracker the calls that its bytes stand for, and then one list into the slice. All of it is what the
 // machine gives for these calls.
 pub fn replay(calls: &[u8], out: &mut [u32]) -> Replayed
     ensures { λ r. ⌜ replayOf r (now (out .exit)) ≡ replaying (now (calls .entry)) (now (out .entry)) ⌝ }

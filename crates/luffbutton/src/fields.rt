@@ -79,7 +79,7 @@ pub extern "C" fn luff_tracker_list_fields<'a>(
     of_wrote(tracker::in_place::list(len, bytes, board, out))
 }
 
-// Makes the fields those of a fresh tracker, whatever they were, and replays a field log on them.
+// Makes the fields those of a fresh tracker, whatever they were, makes the calls of a log on them, and then one list.
 #[no_mangle]
 pub extern "C" fn luff_tracker_replay_fields(
     calls: &[u8],

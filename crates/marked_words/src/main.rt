@@ -8,7 +8,7 @@
 //       report 40:abba      the report, whose words are printed as the numbers that they are
 //        cover 00:abba      the search for a cover
 //        judge 04:abba      the judge on the pair of head 0 and period 4; a `*` for one of them is the largest number that there is
-//       replay 40:abb-      the replay of a field log
+//       replay 40:abb-      the replay of a log of calls
 //        track 40:abb-      a call of the tracker for each byte, and then its list; the tracker is printed after each
 //
 // Any other line is a heading.

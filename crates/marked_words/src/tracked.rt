@@ -68,7 +68,7 @@ fn say_tracker(tracker: Tracker) {
     say_entries(tracker);
 }
 
-// Makes the call that a byte stands for, as in a field log: a take-back, a clear, or an add of the byte.
+// Makes the call that a byte stands for, as in a log: a take-back, a clear, or an add of the byte.
 fn call(tracker: Tracker, byte: u8) -> Stepped {
     match byte {
         b'-' => take_back(tracker),
@@ -154,7 +154,7 @@ pub(crate) fn tracked(bytes: &[u8], out: &mut [u32]) -> Wrote {
     listed(run_bytes(bytes), out)
 }
 
-// Calls the replay of a field log, and prints how many of its calls were refused.
+// Replays a log of calls, and prints how many of its calls were refused.
 pub(crate) fn replayed(calls: &[u8], out: &mut [u32]) -> Wrote {
     let replayed = replay(calls, out);
     say_named(b" refusals", replayed.refused);

@@ -1,4 +1,4 @@
-// Abelian periods of a word by its prefix counts: the kernel that the listers and the tracker ask about each pair.
+// Abelian periods of a word by its prefix counts: the test that the listers and the tracker make of each pair.
 use abelian::Head;
 use abelian::LETTERS;
 use abelian::Period;

@@ -1,6 +1,6 @@
-// The tracker's five calls by value. Each takes the tracker and returns it as the call leaves it, beside the answer: a refused call returns
-// it as it came. They take the tracker apart, make the call in place on its fields, and build it again. The contracts hold of every tracker,
-// also of one that no calls have made.
+// The tracker's calls by value: a fresh tracker, and four calls that take the tracker and return it as the call leaves it, beside the answer; a
+// refused call returns it as it came. An add, a take-back and a clear take the tracker apart, make the call in place on its fields, and build it
+// again; a list lends the fields for reading. The contracts hold of every tracker, also of one that no calls have made.
 pub mod in_place;
 mod letters;
 

@@ -156,7 +156,8 @@ extern "C" {
 
 /// Calls one of the archive's six functions that list something of a word.
 fn list_by<Numbers>(call: ListCall<Numbers>, word: &[u8], out: &mut [u32]) -> Numbers {
-    // SAFETY: both slices are valid for their lengths.
+    // SAFETY: `call` is one of the six declared above (this function is private, and no other is handed to it), and both slices are
+    // valid for their lengths.
     unsafe { call(word.as_ptr(), word.len(), out.as_mut_ptr(), out.len()) }
 }
 
@@ -171,7 +172,7 @@ pub fn list_plain(word: &[u8], out: &mut [u32]) -> Listed {
     list_by(luff_list_plain, word, out)
 }
 
-/// Lists all Abelian periods and tries the pairs that document 004's bounds leave.
+/// Lists all Abelian periods and tries the pairs whose head is not ruled out and whose period is at least L(h).
 pub fn list_skipping(word: &[u8], out: &mut [u32]) -> Listed {
     list_by(luff_list_skipping, word, out)
 }

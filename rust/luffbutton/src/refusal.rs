@@ -1,6 +1,8 @@
 //! Why a call was refused.
+use crate::vocabulary::LONGEST;
+use core::fmt;
 
-/// Why a call was refused: a line of document 01's table each.
+/// Why a call was refused, with the number and the value that the C header gives it.
 #[derive(Clone, Copy, Debug, PartialEq, Eq)]
 pub enum Refusal {
     /// 1: the word has more letters than the longest word.
@@ -41,7 +43,7 @@ impl Refusal {
         }
     }
 
-    /// The refusal's number in document 01's table.
+    /// The refusal's number, as in the header's `enum luff_refusal`.
     pub fn number(self) -> usize {
         match self {
             Refusal::TooLong => 1,
@@ -63,3 +65,21 @@ impl Refusal {
         }
     }
 }
+
+impl fmt::Display for Refusal {
+    fn fmt(&self, f: &mut fmt::Formatter<'_>) -> fmt::Result {
+        match self {
+            Refusal::TooLong => write!(f, "the word has more than {LONGEST} letters"),
+            Refusal::NotALetter { position } => {
+                write!(f, "the byte at position {position} is no letter")
+            }
+            Refusal::SliceTooShort { needed } => write!(f, "the list needs {needed} places"),
+            Refusal::TrackerFull => write!(f, "the tracker holds {LONGEST} letters"),
+            Refusal::TrackerEmpty => write!(f, "the tracker holds no letter"),
+            Refusal::TrackerDamaged => write!(f, "the tracker is damaged"),
+            Refusal::PairOutOfRange => write!(f, "the pair is out of range for the word"),
+        }
+    }
+}
+
+impl core::error::Error for Refusal {}

@@ -20,7 +20,7 @@ pub enum Verdict {
 /// What the search for a cover finds.
 #[derive(Clone, Copy, Debug, PartialEq, Eq)]
 pub enum Cover {
-    /// The first and the last so many letters have equal vectors and cover the word.
+    /// The smallest m below n, 2m at least n, at which the first m and the last m letters have equal counts; these two cover the word.
     Length(usize),
     /// No set of intervals covers the word.
     Nothing,
@@ -64,7 +64,7 @@ pub fn list_plain(word: &[u8], out: &mut [u32]) -> Result<Listed, Refusal> {
     listed(numbers::list_plain(word, out))
 }
 
-/// The same list by document 004's bounds, with no more pairs tried: refusals 1, 2, 3.
+/// The same list; tries only pairs whose head is not ruled out and whose period is at least L(h), terms of the header: refusals 1, 2, 3.
 pub fn list_skipping(word: &[u8], out: &mut [u32]) -> Result<Listed, Refusal> {
     listed(numbers::list_skipping(word, out))
 }

@@ -8,14 +8,15 @@ mod squares;
 mod tracker;
 mod words;
 
-pub use covers::{cover_lengths, has_cover};
-pub use full_periods::{full_periods, scaled};
+pub use covers::cover_lengths;
 pub use periods::{ended_length, in_range, is_period, pairs, periods, Pair};
 pub use squares::squares;
 pub use tracker::{Machine, Prefixes};
 pub use words::is_letter;
 
 use crate::calls::{Answer, Calls};
+use covers::has_cover;
+use full_periods::{full_periods, scaled};
 use luffbutton::{Fields, Head, Period, LONGEST};
 use periods::{first_failure, plain_trials, skipping_trials};
 

@@ -1,11 +1,11 @@
 //! Random lists of tracker calls: after every call the library's answer is the machine's, and its tracker holds the machine's word with
 //! the ended lengths of every pair.
 use crate::records::Call;
-use crate::support::{assert_same_fields, lent, seeded, Shown};
+use crate::support::{assert_same_fields, lent, not_a_letter, seeded, Shown};
 use checks::calls::{Answer, Calls};
 use checks::generator::Generator;
 use checks::library::Library;
-use checks::reference::{is_letter, Machine, Prefixes, Reference};
+use checks::reference::{Machine, Prefixes, Reference};
 use luffbutton::{Fields, BOARD, CLEAR, LETTERS, LONGEST, TAKE_BACK};
 
 /// The library's tracker, the second implementation's, and the machine, under the same calls.
@@ -114,15 +114,6 @@ fn some_calls(generator: &mut Generator) -> Vec<Call> {
         }
         _ if generator.once_in(4) => vec![Call::Clear],
         _ => vec![Call::List(BOARD)],
-    }
-}
-
-fn not_a_letter(generator: &mut Generator) -> u8 {
-    loop {
-        let byte = generator.byte();
-        if !is_letter(byte) {
-            return byte;
-        }
     }
 }
 

@@ -6,6 +6,8 @@ use checks::reference::{pairs, periods, squares, Pair};
 use luffbutton::{find_cover, findings, judge, list_full, list_full_scaled, list_plain};
 use luffbutton::{list_skipping, list_squares, report, Cover, Finding, Head, Period, Refusal};
 use luffbutton::{Tracker, Verdict, BOARD, CLEAR, LONGEST, TAKE_BACK};
+use std::error::Error;
+use std::sync::Mutex;
 
 #[test]
 fn verdicts() {
@@ -139,6 +141,17 @@ fn a_tracker_through_its_calls() {
     }
     assert_eq!(tracker.add(b'a'), Err(Refusal::TrackerFull));
     assert_eq!(tracker.list(&mut out), Ok(pairs(LONGEST).len()));
+}
+
+/// A tracker can be held by a static, is shown by its letters, and its refusals are errors with a text of their own.
+#[test]
+fn a_tracker_in_a_static() {
+    static SHARED: Mutex<Tracker> = Mutex::new(Tracker::fresh());
+    let mut tracker = SHARED.lock().expect("no other test has it");
+    assert_eq!(tracker.add(b'a'), Ok(()));
+    assert_eq!(format!("{tracker:?}"), "Tracker(\"a\")");
+    let refused: Box<dyn Error> = Box::from(tracker.add(b'A').unwrap_err());
+    assert_eq!(refused.to_string(), "the byte at position 1 is no letter");
 }
 
 #[test]

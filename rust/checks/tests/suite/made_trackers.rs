@@ -1,10 +1,10 @@
 //! Trackers that no calls have made, damaged or not, with any board: one call on the library and on the second implementation's step by
 //! fields. Answers, slices and every field afterwards are compared.
-use crate::support::{assert_same_fields, lent, marks, seeded, sparse, Shown};
+use crate::support::{assert_same_fields, lent, marks, not_a_letter, seeded, sparse, Shown};
 use checks::calls::{Answer, Calls};
 use checks::generator::Generator;
 use checks::library::Library;
-use checks::reference::{is_letter, Reference};
+use checks::reference::Reference;
 use luffbutton::{Fields, BOARD, LETTERS, LONGEST};
 
 /// To be held while a tracker is tried.
@@ -169,10 +169,7 @@ fn damaged(generator: &mut Generator) -> Fields {
     }
     tracker.length = tracker.length.max(1);
     let at = generator.below(tracker.length);
-    tracker.bytes[at] = generator.byte();
-    while is_letter(tracker.bytes[at]) {
-        tracker.bytes[at] = generator.byte();
-    }
+    tracker.bytes[at] = not_a_letter(generator);
     tracker
 }
 

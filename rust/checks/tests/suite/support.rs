@@ -2,8 +2,8 @@
 use checks::calls::{Answer, Calls};
 use checks::generator::Generator;
 use checks::library::Library;
-use checks::reference::{pairs, Reference};
-use luffbutton::{Fields, LETTERS};
+use checks::reference::{is_letter, pairs, Reference};
+use luffbutton::{Fields, LETTERS, MOST_FULL};
 
 /// The seed of every generator here; each test adds a number of its own.
 const SEED: u64 = 20_250_117;
@@ -56,14 +56,23 @@ pub const LIST_CALLS: [(&str, ListCall); 6] = [
 /// Places behind a lent slice that no call may write to.
 const GUARDS: usize = 8;
 
-/// As many places as no list of a word of n letters exceeds: a report's head, a full period for each of at most 20 divisors, all pairs
-/// in range and all squares.
+/// As many places as no list of a word of n letters exceeds: a report's head, the full periods, all pairs in range and all squares.
 pub fn places_enough(n: usize) -> usize {
-    1 + 20 + pairs_in_range(n) + n * n / 4
+    1 + MOST_FULL + pairs_in_range(n) + n * n / 4
 }
 
 fn pairs_in_range(n: usize) -> usize {
     (n + 1) / 2 * ((n + 2) / 2)
+}
+
+/// A random byte that is no letter.
+pub fn not_a_letter(generator: &mut Generator) -> u8 {
+    loop {
+        let byte = generator.byte();
+        if !is_letter(byte) {
+            return byte;
+        }
+    }
 }
 
 /// So many places, each with a value that is no output word and differs from its neighbours'.
