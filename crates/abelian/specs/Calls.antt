@@ -11,6 +11,7 @@ use Rattle.abelian.specs.Trials.{plainTrials, skippingTrials}
 use Rattle.abelian.specs.FullPeriods.{fullPeriods, scale, scaledGap}
 use Rattle.abelian.specs.Judge.{Failure, failures}
 use Rattle.abelian.specs.Squares.{squareWords}
+use Rattle.abelian.specs.Runs.{runWords}
 use Rattle.abelian.specs.Covers.{coverLength}
 use Rattle.abelian.specs.Refusals.{wordRefusal}
 use Rattle.abelian.specs.Answers.{Answer, writing, deciding, unless}
@@ -58,6 +59,10 @@ scaledListing w out = listing w out (fullWords w) 0 (scale w) (scaledGap w)
 -- "Squares".
 unfoldable pub squareListing : List ℕ → List ℕ → Answer
 squareListing w out = listing w out (squareWords w) 0 0 0
+
+-- "Abelian runs" (C-11).
+unfoldable pub runListing : List ℕ → List ℕ → Answer
+runListing w out = listing w out (runWords w) 0 0 0
 
 -- none, where the cover length is 0, or the length
 unfoldable pub noneOrLength : ℕ → Answer

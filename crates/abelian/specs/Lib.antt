@@ -7,6 +7,7 @@ pub mod FullPeriods
 pub mod EndedLengths
 pub mod Judge
 pub mod Squares
+pub mod Runs
 pub mod Covers
 pub mod Refusals
 pub mod Answers

@@ -1,11 +1,11 @@
--- The marked words: document 01's P1 to P11, and more rows for clauses that these leave untried. Each row is tried by the definitions
--- alone.
+-- The marked words: document 01's P1 to P11, more rows for clauses that these leave untried, and the rows of document 02's requests. Each row is
+-- tried by the definitions alone.
 use Prim.Native.Nat.{ℕ, suc, _+_, _-_}
 use mathlib.Core.Bool.{Bool, false, _&&_, _||_}
 use mathlib.Core.List.{List, [], _∷_, map}
 use lib.ListN.{length, take, replicate}
 use lib.Dec.{eqb, ltb}
-use Rattle.abelian.specs.Lists.{pick, one, same, largest}
+use Rattle.abelian.specs.Lists.{pick, one, same, largest, each}
 use Rattle.abelian.specs.Words.{alphabetSize, firstLetter, longest}
 use Rattle.abelian.specs.Periods.{Pair, pair, pairs}
 use Rattle.abelian.specs.Output.{periodWord, squareWord}
@@ -13,8 +13,9 @@ use Rattle.abelian.specs.Trials.{plainTrials, skippingTrials}
 use Rattle.abelian.specs.FullPeriods.{fullPeriods, scale, scaledGap}
 use Rattle.abelian.specs.EndedLengths.{endedLength}
 use Rattle.abelian.specs.Squares.{squareWords}
+use Rattle.abelian.specs.Runs.{Run, run, wordsOfRun, runWords}
 use Rattle.abelian.specs.Answers.{Answer, writing, deciding}
-use Rattle.abelian.specs.Calls.{judging, periodWords, reportWords, plainListing, skippingListing, fullListing, scaledListing, squareListing, coverAnswer, reporting}
+use Rattle.abelian.specs.Calls.{judging, periodWords, reportWords, plainListing, skippingListing, fullListing, scaledListing, squareListing, runListing, coverAnswer, reporting}
 use Rattle.abelian.specs.Trackers.{entries, freshTracker, adding, takingBack, clearing, trackerListing}
 use Rattle.abelian.specs.declared.Tracker.{Tracker}
 
@@ -26,6 +27,8 @@ pub data Row : Type 0 where
   fullAre : List ℕ → List ℕ → Row
   -- the squares' words, in order
   squaresAre : List ℕ → List ℕ → Row
+  -- the runs, in order
+  runsAre : List ℕ → List Run → Row
   -- the lengths of which the answered cover's is one; no cover where there is none
   coverIsOneOf : List ℕ → List ℕ → Row
   -- s and T
@@ -81,6 +84,7 @@ unfoldable pub rowHolds : Row → Bool
 rowHolds (periodsAre w xs) = same (periodWords w) (map periodWord xs)
 rowHolds (fullAre w ps) = same (fullPeriods w) ps
 rowHolds (squaresAre w ws) = same (squareWords w) ws
+rowHolds (runsAre w rs) = same (runWords w) (each rs wordsOfRun)
 rowHolds (coverIsOneOf w ms) = answersOneOf (coverAnswer w) ms
 rowHolds (scaledBy w s t) = eqb (scale w) s && eqb (scaledGap w) t
 rowHolds (trialsAre w plain skipping) = eqb (plainTrials w) plain && eqb (skippingTrials w) skipping
@@ -101,6 +105,9 @@ a = 97
 
 abbrev b : ℕ
 b = 98
+
+abbrev c : ℕ
+c = 99
 
 -- the words of P5 and P8, and the one of the report's example
 abbrev abba : List ℕ
@@ -222,4 +229,22 @@ more =
     -- a list reads the board alone: an entry above 0 is not listed, whatever the letters are
     ∷ tracks (made 2 (a ∷ a ∷ 0 ∷ []) (7 ∷ 0 ∷ [])) (a ∷ a ∷ 0 ∷ []) (pair 0 1) 7 (pair 0 2 ∷ [])
     ∷ tracks (clearing (made 241 [] []) .tracker) (0 ∷ []) (pair 0 1) 0 []
+    ∷ []
+
+-- The word of document 003's Figure 2.
+abbrev figure : List ℕ
+figure = a ∷ a ∷ b ∷ b ∷ a ∷ c ∷ b ∷ b ∷ a ∷ a ∷ b ∷ b ∷ b ∷ b ∷ []
+
+-- Rows of document 02.
+unfoldable pub requested : List Row
+requested =
+    -- C-11
+    runsAre [] []
+    ∷ runsAre (a ∷ a ∷ a ∷ a ∷ []) (run 1 1 4 0 0 ∷ run 2 1 4 0 0 ∷ [])
+    ∷ runsAre abaababa (run 1 3 4 0 0 ∷ run 2 2 7 1 1 ∷ run 2 5 8 1 0 ∷ run 3 1 6 0 2 ∷ run 3 3 8 2 0 ∷ [])
+    ∷ runsAre figure
+    (run 1 1 2 0 0 ∷ run 1 3 4 0 0 ∷ run 1 7 8 0 0 ∷ run 1 9 10 0 0 ∷ run 1 11 14 0 0 ∷ run 2 2 5 1 0 ∷ run 2 8 11 1 1 ∷ run 2 11 14 0 0
+    ∷ run 3 7 12 0 2 ∷ [])
+    ∷ writes (runListing abba (5 ∷ 6 ∷ 7 ∷ 8 ∷ 9 ∷ [])) 4 0 0 0 (1342193666 ∷ 1610809344 ∷ 1342210049 ∷ 1610874880 ∷ 9 ∷ [])
+    ∷ refuses (runListing abba (5 ∷ 6 ∷ 7 ∷ [])) 3 4 (5 ∷ 6 ∷ 7 ∷ [])
     ∷ []

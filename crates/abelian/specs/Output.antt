@@ -20,6 +20,14 @@ squareWord half start = outputWord 2 half start
 unfoldable pub fullWord : ℕ → ℕ → ℕ
 fullWord n p = outputWord 3 p (n / p)
 
+-- C-11's "kind 5 with d above and i below": the first of a run's two words.
+unfoldable pub runWord : ℕ → ℕ → ℕ
+runWord d i = outputWord 5 d i
+
+-- C-11's "kind 6": the second of a run's two words, where its whole blocks end and how long its hands are.
+unfoldable pub handsWord : ℕ → ℕ → ℕ → ℕ
+handsWord j left right = 6 * 2 ^ 28 + j * 2 ^ 16 + left * 2 ^ 8 + right
+
 -- "8 report head": n above, and below 1 if a cover exists, else 0.
 unfoldable pub reportHead : ℕ → ℕ → ℕ
 reportHead n covered = outputWord 8 n covered

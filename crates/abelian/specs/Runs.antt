@@ -1,0 +1,111 @@
+-- Abelian runs (document 003, section 3.3, in the words of C-11).
+use Prim.Native.Nat.{ℕ, suc, _+_, _-_, _*_, _≤_, _<_}
+use mathlib.Core.Path.{_≡_}
+use mathlib.Core.Logic.{_⊎_, _≢_}
+use mathlib.Core.Bool.{Bool, _&&_, not}
+use mathlib.Core.List.{List, [], _∷_, map, List·Memᴰ}
+use lib.ListN.{length}
+use lib.Dec.{T, leb, ltb}
+use Rattle.abelian.specs.Lists.{upFrom, largest, same, keep, all, each}
+use Rattle.abelian.specs.Words.{vector, contained, part}
+use Rattle.abelian.specs.Output.{runWord, handsWord}
+use Rattle.abelian.specs.Squares.{isSquare, squareStarts}
+
+-- A run: whole blocks of d letters from position i to position j, and the lengths of its left and right hands.
+pub record Run : Type 0 where
+  pub d : ℕ
+  pub i : ℕ
+  pub j : ℕ
+  pub left : ℕ
+  pub right : ℕ
+
+abbrev pub run : ℕ → ℕ → ℕ → ℕ → ℕ → Run
+run d i j left right = record { d = d; i = i; j = j; left = left; right = right }
+
+-- ---- the list
+
+-- the largest number up to n that passes the test, or 0 where none does
+unfoldable pub most : (ℕ → Bool) → ℕ → ℕ
+most f n = largest (keep f (upFrom 0 (suc n)))
+
+-- the block of d letters before position i lies in the word and has the vector of the one from i on: a square stands at i − d
+unfoldable pub goesBack : List ℕ → ℕ → ℕ → Bool
+goesBack w d i = ltb d i && isSquare w d (i - d)
+
+-- the starts i of half length d at which a square stands and none stands at i − d
+unfoldable pub runStarts : List ℕ → ℕ → List ℕ
+runStarts w d = keep (λ (i : ℕ). not (goesBack w d i)) (squareStarts w d)
+
+-- k whole blocks of d letters from position i on lie in the word and have equal vectors
+unfoldable pub repeats : List ℕ → ℕ → ℕ → ℕ → Bool
+repeats w d i k =
+    leb (i - 1 + k * d) (length w)
+    && all (λ (m : ℕ). same (vector (part w (i - 1 + m * d) d)) (vector (part w (i - 1) d))) (upFrom 0 k)
+
+-- j: where the last of the blocks ends that go on with the same vector
+unfoldable pub runEnd : List ℕ → ℕ → ℕ → ℕ
+runEnd w d i = i - 1 + most (repeats w d i) (length w) * d
+
+-- the stretch of k letters that ends at i − 1 is contained in the block of d letters from i on
+unfoldable pub leftFits : List ℕ → ℕ → ℕ → ℕ → Bool
+leftFits w d i k = contained (vector (part w (i - 1 - k) k)) (vector (part w (i - 1) d))
+
+-- the stretch of k letters that begins at j + 1 is contained in the block of d letters from i on
+unfoldable pub rightFits : List ℕ → ℕ → ℕ → ℕ → ℕ → Bool
+rightFits w d i j k = contained (vector (part w j k)) (vector (part w (i - 1) d))
+
+-- "Left hand": the largest length of a stretch in the word that ends at i − 1 and is contained in a block.
+unfoldable pub leftHand : List ℕ → ℕ → ℕ → ℕ
+leftHand w d i = most (leftFits w d i) (i - 1)
+
+-- "Right hand": the largest length of a stretch in the word that begins at j + 1 and is contained in a block.
+unfoldable pub rightHand : List ℕ → ℕ → ℕ → ℕ → ℕ
+rightHand w d i j = most (rightFits w d i j) (length w - j)
+
+-- the run with blocks of d letters from position i on
+unfoldable pub runAt : List ℕ → ℕ → ℕ → Run
+runAt w d i = run d i (runEnd w d i) (leftHand w d i) (rightHand w d i (runEnd w d i))
+
+-- The Abelian runs of a word, by d and then by i.
+unfoldable pub runs : List ℕ → List Run
+runs w = each (upFrom 1 (length w)) (λ (d : ℕ). map (runAt w d) (runStarts w d))
+
+-- the two words of a run
+unfoldable pub wordsOfRun : Run → List ℕ
+wordsOfRun r = runWord (r .d) (r .i) ∷ handsWord (r .j) (r .left) (r .right) ∷ []
+
+-- The words of all runs, two for each.
+unfoldable pub runWords : List ℕ → List ℕ
+runWords w = each (runs w) wordsOfRun
+
+-- ---- what C-11 says
+
+-- k is the largest number up to n that passes the test: it passes, and every larger one is above n or does not.
+pub record Longest (f : ℕ → Bool) (n k : ℕ) : Type 0 where
+  pub within : k ≤ n
+  pub passes : T (f k)
+  pub none : (m : ℕ) → k < m → m ≤ n → T (f m) → ⊥
+
+-- An Abelian run, of a word of letters: two or more whole blocks of d letters from i to j with equal vectors; the block of d letters before i lies
+-- outside the word or differs, and so does the one after j; the hands are the longest stretches of the word beside them that are contained in a block.
+pub record AbelianRun (w : List ℕ) (r : Run) : Type 0 where
+  pub size : 1 ≤ r .d
+  pub start : 1 ≤ r .i
+  pub blocks : ℕ
+  pub two : 2 ≤ blocks
+  pub whole : r .j ≡ r .i - 1 + blocks * r .d
+  pub within : r .j ≤ length w
+  pub equal : (m : ℕ) → m < blocks → vector (part w (r .i - 1 + m * r .d) (r .d)) ≡ vector (part w (r .i - 1) (r .d))
+  pub before : r .d < r .i → vector (part w (r .i - 1 - r .d) (r .d)) ≢ vector (part w (r .i - 1) (r .d))
+  pub after : r .j + r .d ≤ length w → vector (part w (r .j) (r .d)) ≢ vector (part w (r .i - 1) (r .d))
+  pub leftHand : Longest (leftFits w (r .d) (r .i)) (r .i - 1) (r .left)
+  pub rightHand : Longest (rightFits w (r .d) (r .i) (r .j)) (length w - r .j) (r .right)
+
+-- x stands before y: d first, then i.
+abbrev pub RunBefore : Run → Run → Type 0
+RunBefore x y = (x .d < y .d) ⊎ ((x .d ≡ y .d) × (x .i < y .i))
+
+-- Each run of the list stands before all behind it: the list rises strictly by d and then i.
+abbrev pub RunsRise : List Run → Type 0
+RunsRise [] = Unit {0}
+RunsRise (x ∷ xs) = ((y : Run) → List·Memᴰ y xs → RunBefore x y) × RunsRise xs
