@@ -1,7 +1,7 @@
 -- Laws of the functions on lists that the definitions are made of.
 use mathlib.Core.Path.{_≡_, refl, sym, ap, subst, _∙_}
 use mathlib.Core.Logic.{_⊎_, inl, inr, ⊎-elim, _≢_}
-use mathlib.Core.Bool.{Bool, true, false}
+use mathlib.Core.Bool.{Bool, true, false, _&&_}
 use mathlib.Core.List.{List, [], _∷_, _++_, append-assoc, append-nil, List·Memᴰ, List·Memᴰ·head, List·Memᴰ·tail, List·Memᴰ·cases-cons, List·Memᴰ·append-cases, Memᴰ·append-left, Memᴰ·append-right, List·Memᴰ·not-nil}
 use Prim.Native.Nat.{ℕ, zero, suc, _+_, _≤_, _<_}
 use native.Mathlib.Omega.{arith}
@@ -128,6 +128,18 @@ keep-append f (x ∷ xs) ys = go (f x) (keep-append f xs ys)
     go true e = ap (λ l. x ∷ l) e
     go false e = e
 
+-- kept by one test and then by another
+pub keep-keep : {A : Type 0} (f g : A → Bool) (xs : List A) → keep f (keep g xs) ≡ keep (λ (x : A). f x && g x) xs
+keep-keep f g [] = refl
+keep-keep {A} f g (x ∷ xs) = go (f x) refl (g x) (keep-keep f g xs)
+  where
+    go : (a : Bool) → f x ≡ a → (b : Bool) → keep f (keep g xs) ≡ keep (λ (y : A). f y && g y) xs
+        → keep f (put b x (keep g xs)) ≡ put (a && b) x (keep (λ (y : A). f y && g y) xs)
+    go true e true h = rw e (ap (λ (l : List A). x ∷ l) h)
+    go false e true h = rw e h
+    go true e false h = h
+    go false e false h = h
+
 -- tests that agree on a list keep the same
 pub keep-agree : {A : Type 0} (f g : A → Bool) (xs : List A) → ((a : A) → List·Memᴰ a xs → f a ≡ g a) → keep f xs ≡ keep g xs
 keep-agree f g [] h = refl
@@ -139,6 +151,11 @@ keep-agree f g (x ∷ xs) h =
 pub each-append : {A B : Type 0} (f : A → List B) (xs ys : List A) → each (xs ++ ys) f ≡ each xs f ++ each ys f
 each-append f [] ys = refl
 each-append f (x ∷ xs) ys = ap (λ l. f x ++ l) (each-append f xs ys) ∙ sym (append-assoc (f x) (each xs f) (each ys f))
+
+-- the lists of the elements of lists
+pub each-each : {A B C : Type 0} (f : A → List B) (g : B → List C) (xs : List A) → each (each xs f) g ≡ each xs (λ (x : A). each (f x) g)
+each-each f g [] = refl
+each-each f g (x ∷ xs) = each-append g (f x) (each xs f) ∙ ap (λ l. each (f x) g ++ l) (each-each f g xs)
 
 -- of the numbers from a on, one more: its list stands at the end
 pub each-last : {B : Type 0} (f : ℕ → List B) (a n : ℕ) → each (upFrom a (suc n)) f ≡ each (upFrom a n) f ++ f (a + n)

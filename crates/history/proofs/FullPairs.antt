@@ -10,7 +10,7 @@ use Rattle.abelian.specs.Lists.{upFrom, put, keep, each}
 use Rattle.abelian.specs.Periods.{Pair, pair, heads, row, pairs, isPeriod, periods}
 use Rattle.abelian.specs.FullPeriods.{divides, fullPeriods}
 use Rattle.abelian.proofs.Tests.{is-false, left}
-use Rattle.abelian.proofs.Lists.{keep-append}
+use Rattle.abelian.proofs.Lists.{keep-append, keep-keep}
 use Rattle.history.specs.History.{fullPair}
 
 abbrev periodOf : Pair → ℕ
@@ -44,18 +44,7 @@ module _ (f : Pair → Bool) (z : (x : Pair) → T (f x) → x .head ≡ 0) wher
       go true = refl
       go false = refl
 
--- ---- kept by one test and then by another
-
-keep-keep : (f g : Pair → Bool) (xs : List Pair) → keep f (keep g xs) ≡ keep (λ (x : Pair). f x && g x) xs
-keep-keep f g [] = refl
-keep-keep f g (x ∷ xs) = go (f x) refl (g x) (keep-keep f g xs)
-  where
-    go : (a : Bool) → f x ≡ a → (b : Bool) → keep f (keep g xs) ≡ keep (λ (y : Pair). f y && g y) xs
-        → keep f (put b x (keep g xs)) ≡ put (a && b) x (keep (λ (y : Pair). f y && g y) xs)
-    go true e true h = rw e (ap (λ (l : List Pair). x ∷ l) h)
-    go false e true h = rw e h
-    go true e false h = h
-    go false e false h = h
+-- ---- the full pairs
 
 pub full-pairs : (w : List ℕ) → map periodOf (keep (fullPair (length w)) (periods w)) ≡ fullPeriods w
 unfolding periods pairs fullPeriods
