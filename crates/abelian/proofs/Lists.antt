@@ -6,9 +6,9 @@ use mathlib.Core.List.{List, [], _∷_, _++_, append-assoc, append-nil, List·Me
 use Prim.Native.Nat.{ℕ, zero, suc, _+_, _≤_, _<_}
 use native.Mathlib.Omega.{arith}
 use lib.ListN.{length}
-use lib.Dec.{T, eqb, eqb→eq, eqb-refl}
-use borrow.Author.Tests.{eqb-true, eqb-false, ne-eqb}
-use Rattle.abelian.specs.Lists.{pick, upFrom, same, put, keep, all, each, firstOf}
+use lib.Dec.{T, eqb, ltb, eqb→eq, eqb-refl}
+use borrow.Author.Tests.{eqb-true, eqb-false, ltb-true, ltb-false, ne-eqb}
+use Rattle.abelian.specs.Lists.{pick, upFrom, largest, same, put, keep, all, each, firstOf}
 use Rattle.abelian.proofs.Tests.{is-false, both, left, right, decided, passes, fails}
 
 -- ---- equal lists of numbers
@@ -211,3 +211,25 @@ firstOf-agree f g (x ∷ xs) h =
     let e : f x ≡ g x = h x (List·Memᴰ·head refl) in
     let t : firstOf f xs ≡ firstOf g xs = firstOf-agree f g xs (λ k m. h k (List·Memᴰ·tail m)) in
     rw (e, t)
+
+-- ---- the largest number
+
+-- a number is below another or not
+pub below-or-not : (k i : ℕ) → (k < i) ⊎ (i ≤ k)
+below-or-not k i = ⊎-elim (λ e. inl (ltb-true k i e)) (λ e. inr (ltb-false k i e)) (decided (ltb k i))
+
+-- each number of a list is at most the largest
+pub le-largest : (xs : List ℕ) {x : ℕ} → List·Memᴰ x xs → x ≤ largest xs
+le-largest [] m = absurd (List·Memᴰ·not-nil m)
+le-largest (y ∷ xs) {x} m = ⊎-elim (λ (q : x ≡ y). omega arith) (λ i. omega (arith, le-largest xs i)) (List·Memᴰ·cases-cons m)
+
+-- the largest number is one of the list, or 0
+pub largest-found : (xs : List ℕ) → (largest xs ≡ 0) ⊎ List·Memᴰ (largest xs) xs
+largest-found [] = inl refl
+largest-found (x ∷ xs) =
+    ⊎-elim
+    (λ (l : x < largest xs).
+    let e : largest (x ∷ xs) ≡ largest xs = omega arith in
+    ⊎-elim (λ z. inl (e ∙ z)) (λ m. inr (List·Memᴰ·tail (rw e m))) (largest-found xs))
+    (λ (l : largest xs ≤ x). inr (List·Memᴰ·head (omega arith)))
+    (below-or-not x (largest xs))
