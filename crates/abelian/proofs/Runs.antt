@@ -1,14 +1,20 @@
--- Laws of Abelian runs (C-11).
-use mathlib.Core.Path.{_≡_, sym, subst}
-use mathlib.Core.Logic.{_⊎_, inl, inr, ⊎-elim}
-use mathlib.Core.Bool.{Bool}
-use mathlib.Core.List.{List, List·Memᴰ}
-use Prim.Native.Nat.{ℕ, suc, _+_, _≤_, _<_}
+-- The list of Abelian runs is right: for a word of letters a run is in it exactly where it is one as C-11 says.
+use mathlib.Core.Path.{_≡_, refl, sym, ap, subst, _∙_}
+use mathlib.Core.Logic.{_⊎_, inl, inr, ⊎-elim, _≢_, _↔_}
+use mathlib.Core.Bool.{Bool, not}
+use mathlib.Core.List.{List, [], map, List·Memᴰ, Memᴰ·map, Memᴰ·of-map}
+use Prim.Native.Nat.{ℕ, zero, suc, _+_, _-_, _*_, _≤_, _<_}
+use native.Mathlib.Nat.{suc-mul, mul-le-mul-left, mul-le-mul-right}
 use native.Mathlib.Omega.{arith}
-use lib.Dec.{T}
-use Rattle.abelian.specs.Lists.{upFrom, keep}
-use Rattle.abelian.specs.Runs.{most, Longest}
-use Rattle.abelian.proofs.Lists.{mem-keep, keep-mem, mem-upFrom, upFrom-mem, below-or-not, le-largest, largest-found}
+use lib.ListN.{length, drop, length-take, length-drop}
+use lib.Dec.{T, leb, ltb, leb→le, le→leb, ltb→lt, lt→ltb, T-not, not-T}
+use Rattle.abelian.specs.Lists.{upFrom, same, keep, all}
+use Rattle.abelian.specs.Words.{ofLetters, count, vector, contained, part}
+use Rattle.abelian.specs.Squares.{isSquare, squareStarts}
+use Rattle.abelian.specs.Runs.{Run, most, goesBack, runStarts, repeats, runEnd, leftFits, rightFits, leftHand, rightHand, runAt, runs, Longest, AbelianRun}
+use Rattle.abelian.proofs.Tests.{both, left, right}
+use Rattle.abelian.proofs.Lists.{same-equal, equal-same, mem-keep, keep-mem, all-mem, mem-all, mem-upFrom, upFrom-mem, mem-each, each-mem, below-or-not, le-largest, largest-found}
+use Rattle.abelian.proofs.Counts.{counts-noneAbove, letters-part, shorter-contained}
 
 -- ---- the largest number that passes a test
 
@@ -41,3 +47,220 @@ module _ (f : ℕ → Bool) (n : ℕ) where
       let h : k ≤ most f n = le-most k (l .within) (l .passes) in
       ⊎-elim (λ e. omega arith)
       (λ (m : (most f n ≤ n) × T (f (most f n))). ⊎-elim (λ u. absurd (l .none (most f n) u (m .0) (m .1))) (λ u. omega arith) (below-or-not k (most f n))) most-found
+
+module _ (w : List ℕ) (d i : ℕ) where
+  -- ---- blocks that repeat
+
+  -- the vector of block m, from 0, of the blocks of d letters from position i on
+  abbrev pub blockVector : ℕ → List ℕ
+  blockVector m = vector (part w (i - 1 + m * d) d)
+
+  -- the vector of the first of them
+  abbrev pub firstVector : List ℕ
+  firstVector = vector (part w (i - 1) d)
+
+  -- k whole blocks of d letters from position i on lie in the word, and all have the vector of the first
+  pub record Blocks (k : ℕ) : Type 0 where
+    pub within : i - 1 + k * d ≤ length w
+    pub equal : (m : ℕ) → m < k → blockVector m ≡ firstVector
+
+  -- what the test says
+  pub repeats-blocks : (k : ℕ) → T (repeats w d i k) → Blocks k
+  unfolding repeats
+  repeats-blocks k t =
+      let inside : Bool = leb (i - 1 + k * d) (length w) in
+      let alike : ℕ → Bool = λ m. same (blockVector m) firstVector in
+      record {
+        within = leb→le (i - 1 + k * d) (length w) (left inside (all alike (upFrom 0 k)) t);
+        equal = λ m l. same-equal (blockVector m) firstVector (all-mem alike (upFrom 0 k) (right inside (all alike (upFrom 0 k)) t) (upFrom-mem 0 k m (omega arith) (omega arith)));
+      }
+
+  -- and what passes it
+  pub blocks-repeats : (k : ℕ) → Blocks k → T (repeats w d i k)
+  unfolding repeats
+  blocks-repeats k b =
+      let alike : ℕ → Bool = λ m. same (blockVector m) firstVector in
+      both (leb (i - 1 + k * d) (length w)) (all alike (upFrom 0 k)) (le→leb (i - 1 + k * d) (length w) (b .within))
+      (mem-all alike (upFrom 0 k)
+      (λ m e. let l : (0 ≤ m) × (m < 0 + k) = mem-upFrom 0 k e in equal-same (blockVector m) firstVector (b .equal m (omega arith))))
+
+  -- the block behind k blocks lies outside the word or differs from the first
+  abbrev pub Ends : ℕ → Type 0
+  Ends k = i - 1 + k * d + d ≤ length w → blockVector k ≢ firstVector
+
+  -- k is the largest number of blocks that repeat: no other follows
+  pub longest-blocks : (k : ℕ) → 1 ≤ d → Longest (repeats w d i) (length w) k → Blocks k × Ends k
+  longest-blocks k size l =
+      let b : Blocks k = repeats-blocks k (l .passes) in (
+        b,
+        λ h e. l .none (suc k) (omega arith) (omega (arith, mul-le-mul-left (suc k) size, suc-mul k d, b .within))
+            (blocks-repeats (suc k)
+            (record {
+              within = omega (arith, suc-mul k d);
+              equal = λ m u. ⊎-elim (b .equal m) (λ v. let q : k ≡ m = omega arith in subst (λ (a : ℕ). blockVector a ≡ firstVector) q e) (below-or-not m k);
+            })),
+      )
+
+  -- k blocks that no other follows are the largest number
+  pub blocks-longest : (k : ℕ) → 1 ≤ d → Blocks k → Ends k → Longest (repeats w d i) (length w) k
+  blocks-longest k size b ends =
+      record {
+        within = omega (arith, mul-le-mul-left k size, b .within);
+        passes = blocks-repeats k b;
+        none = λ m l u t.
+            let c : Blocks m = repeats-blocks m t in
+            let h : suc k * d ≤ m * d = mul-le-mul-right d l in
+            ends (omega (arith, c .within, suc-mul k d)) (c .equal k l);
+      }
+
+  -- ---- starts
+
+  -- the test of a square at i − d, by the places of its two blocks
+  back-square : d < i → isSquare w d (i - d) ≡ same (vector (part w (i - 1 - d) d)) firstVector
+  unfolding isSquare
+  back-square l =
+      let e : i - d - 1 + d ≡ i - 1 = omega arith in
+      let f : i - d - 1 ≡ i - 1 - d = omega arith in
+      rw (e, f)
+
+  -- the block before position i lies in the word and has the vector of the one from i on
+  pub back-alike : T (goesBack w d i) → (d < i) × (vector (part w (i - 1 - d) d) ≡ firstVector)
+  unfolding goesBack
+  back-alike t =
+      let l : d < i = ltb→lt d i (left (ltb d i) (isSquare w d (i - d)) t) in
+      (l, same-equal (vector (part w (i - 1 - d) d)) firstVector (subst T (back-square l) (right (ltb d i) (isSquare w d (i - d)) t)))
+
+  pub alike-back : d < i → vector (part w (i - 1 - d) d) ≡ firstVector → T (goesBack w d i)
+  unfolding goesBack
+  alike-back l e =
+      both (ltb d i) (isSquare w d (i - d)) (lt→ltb d i l)
+      (subst T (sym (back-square l)) (equal-same (vector (part w (i - 1 - d) d)) firstVector e))
+
+  -- a square of half length d stands at i, and none at i − d
+  pub record RunStart : Type 0 where
+    pub start : 1 ≤ i
+    pub within : i + 2 * d ≤ length w + 1
+    pub square : T (isSquare w d i)
+    pub first : T (goesBack w d i) → ⊥
+
+  -- the starts in the list are those
+  pub start-fits : List·Memᴰ i (runStarts w d) → RunStart
+  unfolding runStarts squareStarts
+  start-fits m =
+      let k : List·Memᴰ i (squareStarts w d) × T (not (goesBack w d i)) = mem-keep (λ (a : ℕ). not (goesBack w d a)) (squareStarts w d) m in
+      let s : List·Memᴰ i (upFrom 1 (suc (length w) - 2 * d)) × T (isSquare w d i) = mem-keep (isSquare w d) (upFrom 1 (suc (length w) - 2 * d)) (k .0) in
+      let b : (1 ≤ i) × (i < 1 + (suc (length w) - 2 * d)) = mem-upFrom 1 (suc (length w) - 2 * d) (s .0) in
+      record { start = b .0; within = omega arith; square = s .1; first = T-not (goesBack w d i) (k .1) }
+
+  pub fits-start : RunStart → List·Memᴰ i (runStarts w d)
+  unfolding runStarts squareStarts
+  fits-start s =
+      keep-mem (λ (a : ℕ). not (goesBack w d a)) (squareStarts w d)
+      (keep-mem (isSquare w d) (upFrom 1 (suc (length w) - 2 * d)) (upFrom-mem 1 (suc (length w) - 2 * d) i (s .start) (omega arith)) (s .square))
+      (not-T (goesBack w d i) (s .first))
+
+-- ---- from the list to the record
+
+module _ (w : List ℕ) (d i : ℕ) (size : 1 ≤ d) (s : RunStart w d i) where
+  -- a square has two blocks
+  two-blocks : Blocks w d i 2
+  unfolding isSquare
+  two-blocks = record { within = omega (arith, s .within, s .start); equal = alike }
+    where
+      alike : (m : ℕ) → m < 2 → blockVector w d i m ≡ firstVector w d i
+      alike zero l = let e : i - 1 + 0 * d ≡ i - 1 = omega arith in rw e
+      alike (suc zero) l =
+          let e : i - 1 + 1 * d ≡ i - 1 + d = omega arith in
+          rw e (sym (same-equal (vector (part w (i - 1) d)) (vector (part w (i - 1 + d) d)) (s .square)))
+      alike (suc (suc m)) l = absurd (omega arith)
+
+  -- the number of blocks is the largest that repeat
+  run-blocks : Longest (repeats w d i) (length w) (most (repeats w d i) (length w))
+  run-blocks =
+      most-longest (repeats w d i) (length w)
+      (blocks-repeats w d i 0 (record { within = omega (arith, s .within, s .start); equal = λ m l. absurd (omega arith) }))
+
+  -- no letters are contained in a block
+  none-contained : T (ofLetters w) → (at : ℕ) → T (contained (vector (part w at 0)) (firstVector w d i))
+  unfolding count
+  none-contained t at =
+      shorter-contained [] (part w (i - 1) d) (letters-part w at 0 t) (letters-part w (i - 1) d t)
+      (counts-noneAbove [] (part w (i - 1) d) (λ c m. omega arith))
+      (omega (arith, length-take d (drop (i - 1) w), length-drop (i - 1) w, s .within, s .start))
+
+  -- what stands at a start is a run
+  pub start-run : T (ofLetters w) → AbelianRun w (runAt w d i)
+  unfolding runAt runEnd leftHand rightHand leftFits rightFits
+  start-run t =
+      let k : ℕ = most (repeats w d i) (length w) in
+      let b : Blocks w d i k × Ends w d i k = longest-blocks w d i k size run-blocks in
+      record {
+        size = size;
+        start = s .start;
+        blocks = k;
+        two = ⊎-elim (λ l. absurd (run-blocks .none 2 l (omega (arith, s .within, s .start)) (blocks-repeats w d i 2 two-blocks))) (λ l. l) (below-or-not k 2);
+        whole = refl;
+        within = b .0 .within;
+        equal = b .0 .equal;
+        before = λ l e. s .first (alike-back w d i l e);
+        after = b .1;
+        leftHand = most-longest (leftFits w d i) (i - 1) (none-contained t (i - 1 - 0));
+        rightHand = most-longest (rightFits w d i (runEnd w d i)) (length w - runEnd w d i) (none-contained t (runEnd w d i));
+      }
+
+-- ---- from the record to the list
+
+module _ (w : List ℕ) (r : Run) (a : AbelianRun w r) where
+  -- a run's blocks lie in the word
+  blocks-of-run : Blocks w (r .d) (r .i) (a .blocks)
+  blocks-of-run = record { within = omega (arith, a .whole, a .within); equal = a .equal }
+
+  -- a run begins at a start of its block length
+  run-start : RunStart w (r .d) (r .i)
+  unfolding isSquare
+  run-start =
+      let e : r .i - 1 + 1 * r .d ≡ r .i - 1 + r .d = omega arith in
+      let square : vector (part w (r .i - 1 + r .d) (r .d)) ≡ firstVector w (r .d) (r .i) = rw e at (a .equal 1 (a .two)) in
+      record {
+        start = a .start;
+        within = omega (arith, a .whole, a .within, a .start, mul-le-mul-right (r .d) (a .two));
+        square = equal-same (firstVector w (r .d) (r .i)) (vector (part w (r .i - 1 + r .d) (r .d))) (sym square);
+        first = λ t. a .before (back-alike w (r .d) (r .i) t .0) (back-alike w (r .d) (r .i) t .1);
+      }
+
+  -- it is the one that the list has there
+  run-listed : runAt w (r .d) (r .i) ≡ r
+  unfolding runAt runEnd leftHand rightHand
+  run-listed =
+      let n : most (repeats w (r .d) (r .i)) (length w) ≡ a .blocks =
+      longest-most (repeats w (r .d) (r .i)) (length w) (a .blocks)
+      (blocks-longest w (r .d) (r .i) (a .blocks) (a .size) blocks-of-run (λ h e. a .after (omega (arith, a .whole)) (rw (← a .whole) at e))) in
+      let e : runEnd w (r .d) (r .i) ≡ r .j = ap (λ (k : ℕ). r .i - 1 + k * r .d) n ∙ sym (a .whole) in
+      let f : most (leftFits w (r .d) (r .i)) (r .i - 1) ≡ r .left = longest-most (leftFits w (r .d) (r .i)) (r .i - 1) (r .left) (a .leftHand) in
+      let g : most (rightFits w (r .d) (r .i) (r .j)) (length w - r .j) ≡ r .right =
+      longest-most (rightFits w (r .d) (r .i) (r .j)) (length w - r .j) (r .right) (a .rightHand) in
+      rw (e, f, g)
+
+-- ---- the theorem
+
+-- the runs with blocks of d letters
+abbrev pub runsOf : List ℕ → ℕ → List Run
+runsOf w d = map (runAt w d) (runStarts w d)
+
+-- for a word of letters a run is in the list exactly where it is an Abelian run
+pub runs-definition : (w : List ℕ) (r : Run) → T (ofLetters w) → List·Memᴰ r (runs w) ↔ AbelianRun w r
+unfolding runs
+runs-definition w r t = (from, to)
+  where
+    from : List·Memᴰ r (runs w) → AbelianRun w r
+    from m =
+        let e : (d : ℕ) × List·Memᴰ d (upFrom 1 (length w)) × List·Memᴰ r (runsOf w d) = mem-each (runsOf w) (upFrom 1 (length w)) m in
+        let k : (i : ℕ) × List·Memᴰ i (runStarts w (e .0)) × (runAt w (e .0) i ≡ r) = Memᴰ·of-map (runAt w (e .0)) (runStarts w (e .0)) (e .2) in
+        subst (AbelianRun w) (k .2) (start-run w (e .0) (k .0) (mem-upFrom 1 (length w) (e .1) .0) (start-fits w (e .0) (k .0) (k .1)) t)
+
+    to : AbelianRun w r → List·Memᴰ r (runs w)
+    to a =
+        let s : RunStart w (r .d) (r .i) = run-start w r a in
+        subst (λ (x : Run). List·Memᴰ x (runs w)) (run-listed w r a)
+        (each-mem (runsOf w) (upFrom 1 (length w)) (upFrom-mem 1 (length w) (r .d) (a .size) (omega (arith, s .within, s .start)))
+        (Memᴰ·map (runAt w (r .d)) (fits-start w (r .d) (r .i) s)))
