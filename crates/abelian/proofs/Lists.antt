@@ -2,7 +2,7 @@
 use mathlib.Core.Path.{_≡_, refl, sym, ap, subst, _∙_}
 use mathlib.Core.Logic.{_⊎_, inl, inr, ⊎-elim, _≢_}
 use mathlib.Core.Bool.{Bool, true, false, _&&_}
-use mathlib.Core.List.{List, [], _∷_, _++_, append-assoc, append-nil, List·Memᴰ, List·Memᴰ·head, List·Memᴰ·tail, List·Memᴰ·cases-cons, List·Memᴰ·append-cases, Memᴰ·append-left, Memᴰ·append-right, List·Memᴰ·not-nil}
+use mathlib.Core.List.{List, [], _∷_, _++_, map, append-assoc, append-nil, List·Memᴰ, List·Memᴰ·head, List·Memᴰ·tail, List·Memᴰ·cases-cons, List·Memᴰ·append-cases, Memᴰ·append-left, Memᴰ·append-right, Memᴰ·of-map, List·Memᴰ·not-nil}
 use Prim.Native.Nat.{ℕ, zero, suc, _+_, _≤_, _<_}
 use native.Mathlib.Omega.{arith}
 use lib.ListN.{length}
@@ -233,3 +233,54 @@ largest-found (x ∷ xs) =
     ⊎-elim (λ z. inl (e ∙ z)) (λ m. inr (List·Memᴰ·tail (rw e m))) (largest-found xs))
     (λ (l : largest xs ≤ x). inr (List·Memᴰ·head (omega arith)))
     (below-or-not x (largest xs))
+
+-- ---- order
+
+module _ {A : Type 0} (R : A → A → Type 0) where
+  -- each element of the list stands in the relation R to all behind it
+  abbrev pub Ordered : List A → Type 0
+  Ordered [] = Unit {0}
+  Ordered (x ∷ xs) = ((y : A) → List·Memᴰ y xs → R x y) × Ordered xs
+
+  -- ordered lists, one behind the other, are ordered where each element of the first stands in the relation to each of the second
+  pub ordered-append : (xs ys : List A) → Ordered xs → Ordered ys → ((x y : A) → List·Memᴰ x xs → List·Memᴰ y ys → R x y) → Ordered (xs ++ ys)
+  ordered-append [] ys r s h = s
+  ordered-append (x ∷ xs) ys r s h = (
+    λ y m. ⊎-elim (r .0 y) (h x y (List·Memᴰ·head refl)) (List·Memᴰ·append-cases xs m),
+    ordered-append xs ys (r .1) s (λ a b m. h a b (List·Memᴰ·tail m)),
+  )
+
+  -- what an ordered list keeps is ordered
+  pub ordered-keep : (f : A → Bool) (xs : List A) → Ordered xs → Ordered (keep f xs)
+  ordered-keep f [] r = tt
+  ordered-keep f (x ∷ xs) r = go (f x) (ordered-keep f xs (r .1))
+    where
+      go : (b : Bool) → Ordered (keep f xs) → Ordered (put b x (keep f xs))
+      go true s = (λ y m. r .0 y (mem-keep f xs m .0), s)
+      go false s = s
+
+-- the numbers from a on rise
+pub ordered-upFrom : (a n : ℕ) → Ordered _<_ (upFrom a n)
+ordered-upFrom a zero = tt
+ordered-upFrom a (suc n) = (λ y m. mem-upFrom (suc a) n m .0, ordered-upFrom (suc a) n)
+
+module _ {A B : Type 0} (R : A → A → Type 0) (S : B → B → Type 0) where
+  -- what f gives for an ordered list's elements is ordered where f takes the one relation to the other
+  pub ordered-map : (f : A → B) → ((x y : A) → R x y → S (f x) (f y)) → (xs : List A) → Ordered R xs → Ordered S (map f xs)
+  ordered-map f h [] r = tt
+  ordered-map f h (x ∷ xs) r = (
+    λ z m.
+        let k : (y : A) × List·Memᴰ y xs × (f y ≡ z) = Memᴰ·of-map f xs m in
+        subst (S (f x)) (k .2) (h x (k .0) (r .0 (k .0) (k .1))),
+    ordered-map f h xs (r .1),
+  )
+
+  -- and so are the lists that f gives, one behind the other
+  pub ordered-each : (f : A → List B) → ((a : A) → Ordered S (f a)) → ((a b : A) → R a b → (x y : B) → List·Memᴰ x (f a) → List·Memᴰ y (f b) → S x y)
+      → (xs : List A) → Ordered R xs → Ordered S (each xs f)
+  ordered-each f o h [] r = tt
+  ordered-each f o h (a ∷ xs) r =
+      ordered-append S (f a) (each xs f) (o a) (ordered-each f o h xs (r .1))
+      (λ x y m n.
+      let k : (b : A) × List·Memᴰ b xs × List·Memᴰ y (f b) = mem-each f xs n in
+      h a (k .0) (r .0 (k .0) (k .1)) x y m (k .2))

@@ -2,7 +2,7 @@
 use mathlib.Core.Path.{_≡_, refl, sym, ap, subst, _∙_}
 use mathlib.Core.Logic.{_⊎_, inl, inr, ⊎-elim, _≢_, _↔_}
 use mathlib.Core.Bool.{Bool, not}
-use mathlib.Core.List.{List, [], map, List·Memᴰ, Memᴰ·map, Memᴰ·of-map}
+use mathlib.Core.List.{List, [], _∷_, map, List·Memᴰ, Memᴰ·map, Memᴰ·of-map}
 use Prim.Native.Nat.{ℕ, zero, suc, _+_, _-_, _*_, _≤_, _<_}
 use native.Mathlib.Nat.{suc-mul, mul-le-mul-left, mul-le-mul-right}
 use native.Mathlib.Omega.{arith}
@@ -11,9 +11,9 @@ use lib.Dec.{T, leb, ltb, leb→le, le→leb, ltb→lt, lt→ltb, T-not, not-T}
 use Rattle.abelian.specs.Lists.{upFrom, same, keep, all}
 use Rattle.abelian.specs.Words.{ofLetters, count, vector, contained, part}
 use Rattle.abelian.specs.Squares.{isSquare, squareStarts}
-use Rattle.abelian.specs.Runs.{Run, most, goesBack, runStarts, repeats, runEnd, leftFits, rightFits, leftHand, rightHand, runAt, runs, Longest, AbelianRun}
+use Rattle.abelian.specs.Runs.{Run, most, goesBack, runStarts, repeats, runEnd, leftFits, rightFits, leftHand, rightHand, runAt, runs, Longest, AbelianRun, RunBefore, RunsRise}
 use Rattle.abelian.proofs.Tests.{both, left, right}
-use Rattle.abelian.proofs.Lists.{same-equal, equal-same, mem-keep, keep-mem, all-mem, mem-all, mem-upFrom, upFrom-mem, mem-each, each-mem, below-or-not, le-largest, largest-found}
+use Rattle.abelian.proofs.Lists.{same-equal, equal-same, mem-keep, keep-mem, all-mem, mem-all, mem-upFrom, upFrom-mem, mem-each, each-mem, below-or-not, le-largest, largest-found, Ordered, ordered-keep, ordered-upFrom, ordered-map, ordered-each}
 use Rattle.abelian.proofs.Counts.{counts-noneAbove, letters-part, shorter-contained}
 
 -- ---- the largest number that passes a test
@@ -264,3 +264,31 @@ runs-definition w r t = (from, to)
         subst (λ (x : Run). List·Memᴰ x (runs w)) (run-listed w r a)
         (each-mem (runsOf w) (upFrom 1 (length w)) (upFrom-mem 1 (length w) (r .d) (a .size) (omega (arith, s .within, s .start)))
         (Memᴰ·map (runAt w (r .d)) (fits-start w (r .d) (r .i) s)))
+
+-- ---- order
+
+module _ (w : List ℕ) where
+  -- a run's blocks have the length of its list
+  run-size : (d : ℕ) (r : Run) → List·Memᴰ r (runsOf w d) → r .d ≡ d
+  unfolding runAt
+  run-size d r m = let k : (i : ℕ) × List·Memᴰ i (runStarts w d) × (runAt w d i ≡ r) = Memᴰ·of-map (runAt w d) (runStarts w d) m in ap (λ (x : Run). x .d) (sym (k .2))
+
+  -- the runs with blocks of d letters rise by i
+  runsOf-rise : (d : ℕ) → Ordered RunBefore (runsOf w d)
+  unfolding runStarts squareStarts runAt
+  runsOf-rise d =
+      ordered-map _<_ RunBefore (runAt w d) (λ i k l. inr (refl, l)) (runStarts w d)
+      (ordered-keep _<_ (λ (i : ℕ). not (goesBack w d i)) (squareStarts w d)
+      (ordered-keep _<_ (isSquare w d) (upFrom 1 (suc (length w) - 2 * d)) (ordered-upFrom 1 (suc (length w) - 2 * d))))
+
+  -- the list rises by d and then i: each run is in it once
+  pub runs-rise : RunsRise (runs w)
+  unfolding runs
+  runs-rise =
+      rise (runs w)
+      (ordered-each _<_ RunBefore (runsOf w) runsOf-rise
+      (λ a b l x y m n. inl (omega (arith, run-size a x m, run-size b y n))) (upFrom 1 (length w)) (ordered-upFrom 1 (length w)))
+    where
+      rise : (rs : List Run) → Ordered RunBefore rs → RunsRise rs
+      rise [] o = tt
+      rise (r ∷ rs) o = (o .0, rise rs (o .1))
