@@ -3,9 +3,10 @@ use mathlib.Core.Path.{_≡_, refl, sym, ap, subst, _∙_}
 use mathlib.Core.Logic.{_⊎_, inl, inr, ⊎-elim, _≢_}
 use mathlib.Core.Bool.{Bool, true, false, _&&_}
 use mathlib.Core.List.{List, [], _∷_, _++_, map, append-assoc, append-nil, List·Memᴰ, List·Memᴰ·head, List·Memᴰ·tail, List·Memᴰ·cases-cons, List·Memᴰ·append-cases, Memᴰ·append-left, Memᴰ·append-right, Memᴰ·of-map, List·Memᴰ·not-nil}
-use Prim.Native.Nat.{ℕ, zero, suc, _+_, _≤_, _<_}
+use Prim.Native.Nat.{ℕ, zero, suc, _+_, _*_, _≤_, _<_}
+use native.Mathlib.Nat.{mul-suc}
 use native.Mathlib.Omega.{arith}
-use lib.ListN.{length}
+use lib.ListN.{length, length-append}
 use lib.Dec.{T, eqb, ltb, eqb→eq, eqb-refl}
 use borrow.Author.Tests.{eqb-true, eqb-false, ltb-true, ltb-false, ne-eqb}
 use Rattle.abelian.specs.Lists.{pick, upFrom, largest, same, put, keep, all, each, firstOf}
@@ -156,6 +157,11 @@ each-append f (x ∷ xs) ys = ap (λ l. f x ++ l) (each-append f xs ys) ∙ sym 
 pub each-each : {A B C : Type 0} (f : A → List B) (g : B → List C) (xs : List A) → each (each xs f) g ≡ each xs (λ (x : A). each (f x) g)
 each-each f g [] = refl
 each-each f g (x ∷ xs) = each-append g (f x) (each xs f) ∙ ap (λ l. each (f x) g ++ l) (each-each f g xs)
+
+-- lists of k elements each
+pub length-each : {A B : Type 0} (f : A → List B) (k : ℕ) → ((a : A) → length (f a) ≡ k) → (xs : List A) → length (each xs f) ≡ k * length xs
+length-each f k h [] = omega arith
+length-each f k h (x ∷ xs) = omega (arith, length-append (f x) (each xs f), h x, length-each f k h xs, mul-suc k (length xs))
 
 -- of the numbers from a on, one more: its list stands at the end
 pub each-last : {B : Type 0} (f : ℕ → List B) (a n : ℕ) → each (upFrom a (suc n)) f ≡ each (upFrom a n) f ++ f (a + n)

@@ -3,17 +3,18 @@ use mathlib.Core.Path.{_≡_, refl, sym, ap, subst, _∙_}
 use mathlib.Core.Logic.{_⊎_, inl, inr, ⊎-elim, _≢_, _↔_}
 use mathlib.Core.Bool.{Bool, not}
 use mathlib.Core.List.{List, [], _∷_, map, List·Memᴰ, Memᴰ·map, Memᴰ·of-map}
-use Prim.Native.Nat.{ℕ, zero, suc, _+_, _-_, _*_, _≤_, _<_}
+use Prim.Native.Nat.{ℕ, zero, suc, _+_, _-_, _*_, _/_, _%_, _^_, _≤_, _<_}
 use native.Mathlib.Nat.{suc-mul, mul-le-mul-left, mul-le-mul-right}
 use native.Mathlib.Omega.{arith}
 use lib.ListN.{length, drop, length-take, length-drop}
 use lib.Dec.{T, leb, ltb, leb→le, le→leb, ltb→lt, lt→ltb, T-not, not-T}
 use Rattle.abelian.specs.Lists.{upFrom, same, keep, all}
 use Rattle.abelian.specs.Words.{ofLetters, count, vector, contained, part}
+use Rattle.abelian.specs.Output.{outputWord, runWord, handsWord}
 use Rattle.abelian.specs.Squares.{isSquare, squareStarts}
-use Rattle.abelian.specs.Runs.{Run, most, goesBack, runStarts, repeats, runEnd, leftFits, rightFits, leftHand, rightHand, runAt, runs, Longest, AbelianRun, RunBefore, RunsRise}
+use Rattle.abelian.specs.Runs.{Run, most, goesBack, runStarts, repeats, runEnd, leftFits, rightFits, leftHand, rightHand, runAt, runs, wordsOfRun, runWords, readRun, Longest, AbelianRun, RunBefore, RunsRise}
 use Rattle.abelian.proofs.Tests.{both, left, right}
-use Rattle.abelian.proofs.Lists.{same-equal, equal-same, mem-keep, keep-mem, all-mem, mem-all, mem-upFrom, upFrom-mem, mem-each, each-mem, below-or-not, le-largest, largest-found, Ordered, ordered-keep, ordered-upFrom, ordered-map, ordered-each}
+use Rattle.abelian.proofs.Lists.{same-equal, equal-same, mem-keep, keep-mem, all-mem, mem-all, mem-upFrom, upFrom-mem, mem-each, each-mem, below-or-not, le-largest, largest-found, length-each, Ordered, ordered-keep, ordered-upFrom, ordered-map, ordered-each}
 use Rattle.abelian.proofs.Counts.{counts-noneAbove, letters-part, shorter-contained}
 
 -- ---- the largest number that passes a test
@@ -292,3 +293,24 @@ module _ (w : List ℕ) where
       rise : (rs : List Run) → Ordered RunBefore rs → RunsRise rs
       rise [] o = tt
       rise (r ∷ rs) o = (o .0, rise rs (o .1))
+
+-- ---- words
+
+-- a run's two words give it back
+pub readRun-words : (r : Run) → r .d < 2 ^ 14 → r .i < 2 ^ 14 → r .j < 2 ^ 12 → r .left < 2 ^ 8 → r .right < 2 ^ 8
+    → readRun (runWord (r .d) (r .i)) (handsWord (r .j) (r .left) (r .right)) ≡ r
+unfolding readRun runWord handsWord outputWord
+readRun-words r d i j left right =
+    let first : ℕ = 5 * 2 ^ 28 + r .d * 2 ^ 14 + r .i in
+    let second : ℕ = 6 * 2 ^ 28 + r .j * 2 ^ 16 + r .left * 2 ^ 8 + r .right in
+    let e : first / 2 ^ 14 % 2 ^ 14 ≡ r .d = omega arith in
+    let f : first % 2 ^ 14 ≡ r .i = omega arith in
+    let g : second / 2 ^ 16 % 2 ^ 12 ≡ r .j = omega arith in
+    let h : second / 2 ^ 8 % 2 ^ 8 ≡ r .left = omega arith in
+    let k : second % 2 ^ 8 ≡ r .right = omega arith in
+    rw (e, f, g, h, k)
+
+-- each run has two words
+pub length-runWords : (w : List ℕ) → length (runWords w) ≡ 2 * length (runs w)
+unfolding runWords wordsOfRun
+length-runWords w = length-each wordsOfRun 2 (λ r. refl) (runs w)

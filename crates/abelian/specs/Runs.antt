@@ -1,5 +1,5 @@
 -- Abelian runs (document 003, section 3.3, in the words of C-11).
-use Prim.Native.Nat.{ℕ, suc, _+_, _-_, _*_, _≤_, _<_}
+use Prim.Native.Nat.{ℕ, suc, _+_, _-_, _*_, _/_, _%_, _^_, _≤_, _<_}
 use mathlib.Core.Path.{_≡_}
 use mathlib.Core.Logic.{_⊎_, _≢_}
 use mathlib.Core.Bool.{Bool, _&&_, not}
@@ -77,6 +77,10 @@ wordsOfRun r = runWord (r .d) (r .i) ∷ handsWord (r .j) (r .left) (r .right) �
 -- The words of all runs, two for each.
 unfoldable pub runWords : List ℕ → List ℕ
 runWords w = each (runs w) wordsOfRun
+
+-- the run that two words say: the 14 bits of d and of i in the first, the 12 bits of j and the 8 bits of each hand in the second
+unfoldable pub readRun : ℕ → ℕ → Run
+readRun first second = run (first / 2 ^ 14 % 2 ^ 14) (first % 2 ^ 14) (second / 2 ^ 16 % 2 ^ 12) (second / 2 ^ 8 % 2 ^ 8) (second % 2 ^ 8)
 
 -- ---- what C-11 says
 
