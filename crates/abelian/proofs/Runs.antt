@@ -1,15 +1,16 @@
--- The list of Abelian runs is right: for a word of letters a run is in it exactly where it is one as C-11 says.
+-- The list of Abelian runs is right: for a word of letters a run is in it exactly where it is one as C-11 says. It rises by d and then i, so that it
+-- has each run once, and the two words of a run give it back.
 use mathlib.Core.Path.{_≡_, refl, sym, ap, subst, _∙_}
 use mathlib.Core.Logic.{_⊎_, inl, inr, ⊎-elim, _≢_, _↔_}
 use mathlib.Core.Bool.{Bool, not}
 use mathlib.Core.List.{List, [], _∷_, map, List·Memᴰ, Memᴰ·map, Memᴰ·of-map}
 use Prim.Native.Nat.{ℕ, zero, suc, _+_, _-_, _*_, _/_, _%_, _^_, _≤_, _<_}
-use native.Mathlib.Nat.{suc-mul, mul-le-mul-left, mul-le-mul-right}
+use native.Mathlib.Nat.{mul-le-mul-left, mul-le-mul-right}
 use native.Mathlib.Omega.{arith}
 use lib.ListN.{length, drop, length-take, length-drop}
 use lib.Dec.{T, leb, ltb, leb→le, le→leb, ltb→lt, lt→ltb, T-not, not-T}
 use Rattle.abelian.specs.Lists.{upFrom, same, keep, all}
-use Rattle.abelian.specs.Words.{ofLetters, count, vector, contained, part}
+use Rattle.abelian.specs.Words.{longest, ofLetters, count, vector, contained, part}
 use Rattle.abelian.specs.Output.{outputWord, runWord, handsWord}
 use Rattle.abelian.specs.Squares.{isSquare, squareStarts}
 use Rattle.abelian.specs.Runs.{Run, most, goesBack, runStarts, repeats, runEnd, leftFits, rightFits, leftHand, rightHand, runAt, runs, wordsOfRun, runWords, readRun, Longest, AbelianRun, RunBefore, RunsRise}
@@ -20,12 +21,7 @@ use Rattle.abelian.proofs.Counts.{counts-noneAbove, letters-part, short
 -- ---- the largest number that passes a test
 
 module _ (f : ℕ → Bool) (n : ℕ) where
-  -- a number up to n that passes is at most the largest
-  le-most : (k : ℕ) → k ≤ n → T (f k) → k ≤ most f n
-  unfolding most
-  le-most k l t = le-largest (keep f (upFrom 0 (suc n))) (keep-mem f (upFrom 0 (suc n)) (upFrom-mem 0 (suc n) k (omega arith) (omega arith)) t)
-
-  -- the largest, where it is not 0, is up to n and passes
+  -- the number found is 0, or is at most n and passes
   most-found : (most f n ≡ 0) ⊎ ((most f n ≤ n) × T (f (most f n)))
   unfolding most
   most-found =
@@ -36,18 +32,29 @@ module _ (f : ℕ → Bool) (n : ℕ) where
       inr (omega arith, k .1))
       (largest-found (keep f (upFrom 0 (suc n))))
 
-  -- where 0 passes, the largest number found is the largest that passes
-  pub most-longest : T (f 0) → Longest f n (most f n)
-  most-longest t =
-      let h : (most f n ≤ n) × T (f (most f n)) = ⊎-elim (λ e. (omega arith, subst (λ (k : ℕ). T (f k)) (sym e) t)) (λ k. k) most-found in
-      record { within = h .0; passes = h .1; none = λ m l u p. omega (arith, le-most m u p) }
+  -- so it is at most n
+  pub most-le : most f n ≤ n
+  most-le = ⊎-elim (λ e. omega arith) (λ k. k .0) most-found
 
-  -- the largest that passes is found
+  -- each number up to n that passes is at most the number found
+  pub le-most : (k : ℕ) → k ≤ n → T (f k) → k ≤ most f n
+  unfolding most
+  le-most k l t = le-largest (keep f (upFrom 0 (suc n))) (keep-mem f (upFrom 0 (suc n)) (upFrom-mem 0 (suc n) k (omega arith) (omega arith)) t)
+
+  -- where one passes, the number found passes
+  pub most-passes : (k : ℕ) → k ≤ n → T (f k) → T (f (most f n))
+  most-passes k l t =
+      ⊎-elim (λ e. let q : k ≡ most f n = omega (arith, le-most k l t) in subst (λ (m : ℕ). T (f m)) q t) (λ m. m .1) most-found
+
+  -- where 0 passes, the number found is the largest that passes
+  pub most-longest : T (f 0) → Longest f n (most f n)
+  most-longest t = record { within = most-le; passes = most-passes 0 (omega arith) t; none = λ m l u p. omega (arith, le-most m u p) }
+
+  -- the largest that passes is the number found
   pub longest-most : (k : ℕ) → Longest f n k → most f n ≡ k
   longest-most k l =
-      let h : k ≤ most f n = le-most k (l .within) (l .passes) in
-      ⊎-elim (λ e. omega arith)
-      (λ (m : (most f n ≤ n) × T (f (most f n))). ⊎-elim (λ u. absurd (l .none (most f n) u (m .0) (m .1))) (λ u. omega arith) (below-or-not k (most f n))) most-found
+      ⊎-elim (λ u. absurd (l .none (most f n) u most-le (most-passes k (l .within) (l .passes))))
+      (λ u. omega (arith, le-most k (l .within) (l .passes))) (below-or-not k (most f n))
 
 module _ (w : List ℕ) (d i : ℕ) where
   -- ---- blocks that repeat
@@ -71,9 +78,10 @@ module _ (w : List ℕ) (d i : ℕ) where
   repeats-blocks k t =
       let inside : Bool = leb (i - 1 + k * d) (length w) in
       let alike : ℕ → Bool = λ m. same (blockVector m) firstVector in
+      let every : T (all alike (upFrom 0 k)) = right inside (all alike (upFrom 0 k)) t in
       record {
         within = leb→le (i - 1 + k * d) (length w) (left inside (all alike (upFrom 0 k)) t);
-        equal = λ m l. same-equal (blockVector m) firstVector (all-mem alike (upFrom 0 k) (right inside (all alike (upFrom 0 k)) t) (upFrom-mem 0 k m (omega arith) (omega arith)));
+        equal = λ m l. same-equal (blockVector m) firstVector (all-mem alike (upFrom 0 k) every (upFrom-mem 0 k m (omega arith) (omega arith)));
       }
 
   -- and what passes it
@@ -91,27 +99,28 @@ module _ (w : List ℕ) (d i : ℕ) where
 
   -- k is the largest number of blocks that repeat: no other follows
   pub longest-blocks : (k : ℕ) → 1 ≤ d → Longest (repeats w d i) (length w) k → Blocks k × Ends k
-  longest-blocks k size l =
-      let b : Blocks k = repeats-blocks k (l .passes) in (
-        b,
-        λ h e. l .none (suc k) (omega arith) (omega (arith, mul-le-mul-left (suc k) size, suc-mul k d, b .within))
-            (blocks-repeats (suc k)
-            (record {
-              within = omega (arith, suc-mul k d);
-              equal = λ m u. ⊎-elim (b .equal m) (λ v. let q : k ≡ m = omega arith in subst (λ (a : ℕ). blockVector a ≡ firstVector) q e) (below-or-not m k);
-            })),
-      )
+  longest-blocks k size l = (b, λ h e. l .none (suc k) (omega arith) (omega (arith, mul-le-mul-left (suc k) size)) (blocks-repeats (suc k) (more h e)))
+    where
+      b : Blocks k
+      b = repeats-blocks k (l .passes)
+
+      more : i - 1 + k * d + d ≤ length w → blockVector k ≡ firstVector → Blocks (suc k)
+      more h e =
+          record {
+            within = omega arith;
+            equal = λ m u. ⊎-elim (b .equal m) (λ v. let q : k ≡ m = omega arith in subst (λ (a : ℕ). blockVector a ≡ firstVector) q e) (below-or-not m k);
+          }
 
   -- k blocks that no other follows are the largest number
   pub blocks-longest : (k : ℕ) → 1 ≤ d → Blocks k → Ends k → Longest (repeats w d i) (length w) k
   blocks-longest k size b ends =
       record {
-        within = omega (arith, mul-le-mul-left k size, b .within);
+        within = omega (arith, mul-le-mul-left k size);
         passes = blocks-repeats k b;
         none = λ m l u t.
             let c : Blocks m = repeats-blocks m t in
             let h : suc k * d ≤ m * d = mul-le-mul-right d l in
-            ends (omega (arith, c .within, suc-mul k d)) (c .equal k l);
+            ends (omega arith) (c .equal k l);
       }
 
   -- ---- starts
@@ -124,13 +133,14 @@ module _ (w : List ℕ) (d i : ℕ) where
       let f : i - d - 1 ≡ i - 1 - d = omega arith in
       rw (e, f)
 
-  -- the block before position i lies in the word and has the vector of the one from i on
+  -- what the test of a start says: the block before position i lies in the word and has the vector of the one from i on
   pub back-alike : T (goesBack w d i) → (d < i) × (vector (part w (i - 1 - d) d) ≡ firstVector)
   unfolding goesBack
   back-alike t =
       let l : d < i = ltb→lt d i (left (ltb d i) (isSquare w d (i - d)) t) in
       (l, same-equal (vector (part w (i - 1 - d) d)) firstVector (subst T (back-square l) (right (ltb d i) (isSquare w d (i - d)) t)))
 
+  -- and where it does, the test passes
   pub alike-back : d < i → vector (part w (i - 1 - d) d) ≡ firstVector → T (goesBack w d i)
   unfolding goesBack
   alike-back l e =
@@ -144,7 +154,7 @@ module _ (w : List ℕ) (d i : ℕ) where
     pub square : T (isSquare w d i)
     pub first : T (goesBack w d i) → ⊥
 
-  -- the starts in the list are those
+  -- the list of starts has exactly those
   pub start-fits : List·Memᴰ i (runStarts w d) → RunStart
   unfolding runStarts squareStarts
   start-fits m =
@@ -162,11 +172,11 @@ module _ (w : List ℕ) (d i : ℕ) where
 
 -- ---- from the list to the record
 
-module _ (w : List ℕ) (d i : ℕ) (size : 1 ≤ d) (s : RunStart w d i) where
+module _ (w : List ℕ) (d i : ℕ) (s : RunStart w d i) where
   -- a square has two blocks
   two-blocks : Blocks w d i 2
   unfolding isSquare
-  two-blocks = record { within = omega (arith, s .within, s .start); equal = alike }
+  two-blocks = record { within = omega arith; equal = alike }
     where
       alike : (m : ℕ) → m < 2 → blockVector w d i m ≡ firstVector w d i
       alike zero l = let e : i - 1 + 0 * d ≡ i - 1 = omega arith in rw e
@@ -179,34 +189,34 @@ module _ (w : List ℕ) (d i : ℕ) (size : 1 ≤ d) (s : RunStart w d i) where
   run-blocks : Longest (repeats w d i) (length w) (most (repeats w d i) (length w))
   run-blocks =
       most-longest (repeats w d i) (length w)
-      (blocks-repeats w d i 0 (record { within = omega (arith, s .within, s .start); equal = λ m l. absurd (omega arith) }))
+      (blocks-repeats w d i 0 (record { within = omega arith; equal = λ m l. absurd (omega arith) }))
 
-  -- no letters are contained in a block
-  none-contained : T (ofLetters w) → (at : ℕ) → T (contained (vector (part w at 0)) (firstVector w d i))
+  -- no letters are contained in a block, which has some
+  none-contained : 1 ≤ d → T (ofLetters w) → (at : ℕ) → T (contained (vector (part w at 0)) (firstVector w d i))
   unfolding count
-  none-contained t at =
+  none-contained size t at =
       shorter-contained [] (part w (i - 1) d) (letters-part w at 0 t) (letters-part w (i - 1) d t)
       (counts-noneAbove [] (part w (i - 1) d) (λ c m. omega arith))
-      (omega (arith, length-take d (drop (i - 1) w), length-drop (i - 1) w, s .within, s .start))
+      (omega (arith, length-take d (drop (i - 1) w), length-drop (i - 1) w))
 
   -- what stands at a start is a run
-  pub start-run : T (ofLetters w) → AbelianRun w (runAt w d i)
+  pub start-run : 1 ≤ d → T (ofLetters w) → AbelianRun w (runAt w d i)
   unfolding runAt runEnd leftHand rightHand leftFits rightFits
-  start-run t =
+  start-run size t =
       let k : ℕ = most (repeats w d i) (length w) in
       let b : Blocks w d i k × Ends w d i k = longest-blocks w d i k size run-blocks in
       record {
         size = size;
         start = s .start;
         blocks = k;
-        two = ⊎-elim (λ l. absurd (run-blocks .none 2 l (omega (arith, s .within, s .start)) (blocks-repeats w d i 2 two-blocks))) (λ l. l) (below-or-not k 2);
+        two = le-most (repeats w d i) (length w) 2 (omega arith) (blocks-repeats w d i 2 two-blocks);
         whole = refl;
         within = b .0 .within;
         equal = b .0 .equal;
         before = λ l e. s .first (alike-back w d i l e);
         after = b .1;
-        leftHand = most-longest (leftFits w d i) (i - 1) (none-contained t (i - 1 - 0));
-        rightHand = most-longest (rightFits w d i (runEnd w d i)) (length w - runEnd w d i) (none-contained t (runEnd w d i));
+        leftHand = most-longest (leftFits w d i) (i - 1) (none-contained size t (i - 1 - 0));
+        rightHand = most-longest (rightFits w d i (runEnd w d i)) (length w - runEnd w d i) (none-contained size t (runEnd w d i));
       }
 
 -- ---- from the record to the list
@@ -214,7 +224,7 @@ module _ (w : List ℕ) (d i : ℕ) (size : 1 ≤ d) (s : RunStart w d i) where
 module _ (w : List ℕ) (r : Run) (a : AbelianRun w r) where
   -- a run's blocks lie in the word
   blocks-of-run : Blocks w (r .d) (r .i) (a .blocks)
-  blocks-of-run = record { within = omega (arith, a .whole, a .within); equal = a .equal }
+  blocks-of-run = record { within = omega arith; equal = a .equal }
 
   -- a run begins at a start of its block length
   run-start : RunStart w (r .d) (r .i)
@@ -224,7 +234,7 @@ module _ (w : List ℕ) (r : Run) (a : AbelianRun w r) where
       let square : vector (part w (r .i - 1 + r .d) (r .d)) ≡ firstVector w (r .d) (r .i) = rw e at (a .equal 1 (a .two)) in
       record {
         start = a .start;
-        within = omega (arith, a .whole, a .within, a .start, mul-le-mul-right (r .d) (a .two));
+        within = omega (arith, mul-le-mul-right (r .d) (a .two));
         square = equal-same (firstVector w (r .d) (r .i)) (vector (part w (r .i - 1 + r .d) (r .d))) (sym square);
         first = λ t. a .before (back-alike w (r .d) (r .i) t .0) (back-alike w (r .d) (r .i) t .1);
       }
@@ -235,7 +245,7 @@ module _ (w : List ℕ) (r : Run) (a : AbelianRun w r) where
   run-listed =
       let n : most (repeats w (r .d) (r .i)) (length w) ≡ a .blocks =
       longest-most (repeats w (r .d) (r .i)) (length w) (a .blocks)
-      (blocks-longest w (r .d) (r .i) (a .blocks) (a .size) blocks-of-run (λ h e. a .after (omega (arith, a .whole)) (rw (← a .whole) at e))) in
+      (blocks-longest w (r .d) (r .i) (a .blocks) (a .size) blocks-of-run (λ h e. a .after (omega arith) (rw (← a .whole) at e))) in
       let e : runEnd w (r .d) (r .i) ≡ r .j = ap (λ (k : ℕ). r .i - 1 + k * r .d) n ∙ sym (a .whole) in
       let f : most (leftFits w (r .d) (r .i)) (r .i - 1) ≡ r .left = longest-most (leftFits w (r .d) (r .i)) (r .i - 1) (r .left) (a .leftHand) in
       let g : most (rightFits w (r .d) (r .i) (r .j)) (length w - r .j) ≡ r .right =
@@ -244,38 +254,49 @@ module _ (w : List ℕ) (r : Run) (a : AbelianRun w r) where
 
 -- ---- the theorem
 
--- the runs with blocks of d letters
-abbrev pub runsOf : List ℕ → ℕ → List Run
-runsOf w d = map (runAt w d) (runStarts w d)
-
--- for a word of letters a run is in the list exactly where it is an Abelian run
-pub runs-definition : (w : List ℕ) (r : Run) → T (ofLetters w) → List·Memᴰ r (runs w) ↔ AbelianRun w r
-unfolding runs
-runs-definition w r t = (from, to)
-  where
-    from : List·Memᴰ r (runs w) → AbelianRun w r
-    from m =
-        let e : (d : ℕ) × List·Memᴰ d (upFrom 1 (length w)) × List·Memᴰ r (runsOf w d) = mem-each (runsOf w) (upFrom 1 (length w)) m in
-        let k : (i : ℕ) × List·Memᴰ i (runStarts w (e .0)) × (runAt w (e .0) i ≡ r) = Memᴰ·of-map (runAt w (e .0)) (runStarts w (e .0)) (e .2) in
-        subst (AbelianRun w) (k .2) (start-run w (e .0) (k .0) (mem-upFrom 1 (length w) (e .1) .0) (start-fits w (e .0) (k .0) (k .1)) t)
-
-    to : AbelianRun w r → List·Memᴰ r (runs w)
-    to a =
-        let s : RunStart w (r .d) (r .i) = run-start w r a in
-        subst (λ (x : Run). List·Memᴰ x (runs w)) (run-listed w r a)
-        (each-mem (runsOf w) (upFrom 1 (length w)) (upFrom-mem 1 (length w) (r .d) (a .size) (omega (arith, s .within, s .start)))
-        (Memᴰ·map (runAt w (r .d)) (fits-start w (r .d) (r .i) s)))
-
--- ---- order
-
 module _ (w : List ℕ) where
-  -- a run's blocks have the length of its list
-  run-size : (d : ℕ) (r : Run) → List·Memᴰ r (runsOf w d) → r .d ≡ d
+  -- the runs with blocks of d letters
+  abbrev pub runsOf : ℕ → List Run
+  runsOf d = map (runAt w d) (runStarts w d)
+
+  -- a run's position is a start, and the run is the one that stands there
+  pub record AtStart (r : Run) : Type 0 where
+    pub start : RunStart w (r .d) (r .i)
+    pub whole : runAt w (r .d) (r .i) ≡ r
+
+  -- each run with blocks of d letters is at a start
+  pub mem-runsOf : (d : ℕ) {r : Run} → List·Memᴰ r (runsOf d) → (r .d ≡ d) × AtStart r
   unfolding runAt
-  run-size d r m = let k : (i : ℕ) × List·Memᴰ i (runStarts w d) × (runAt w d i ≡ r) = Memᴰ·of-map (runAt w d) (runStarts w d) m in ap (λ (x : Run). x .d) (sym (k .2))
+  mem-runsOf d {r} m =
+      let k : (i : ℕ) × List·Memᴰ i (runStarts w d) × (runAt w d i ≡ r) = Memᴰ·of-map (runAt w d) (runStarts w d) m in
+      subst (λ (x : Run). (x .d ≡ d) × AtStart x) (k .2) (refl, record { start = start-fits w d (k .0) (k .1); whole = refl })
+
+  -- the list has exactly the runs of the starts
+  pub mem-runs : {r : Run} → List·Memᴰ r (runs w) → (1 ≤ r .d) × AtStart r
+  unfolding runs
+  mem-runs {r} m =
+      let e : (d : ℕ) × List·Memᴰ d (upFrom 1 (length w)) × List·Memᴰ r (runsOf d) = mem-each runsOf (upFrom 1 (length w)) m in
+      (omega (arith, mem-upFrom 1 (length w) (e .1), mem-runsOf (e .0) (e .2)), mem-runsOf (e .0) (e .2) .1)
+
+  pub runs-mem : (d i : ℕ) → 1 ≤ d → RunStart w d i → List·Memᴰ (runAt w d i) (runs w)
+  unfolding runs
+  runs-mem d i size s =
+      each-mem runsOf (upFrom 1 (length w)) (upFrom-mem 1 (length w) d size (omega arith)) (Memᴰ·map (runAt w d) (fits-start w d i s))
+
+  -- For a word of letters a run is in the list exactly where it is an Abelian run. In a block of other bytes nothing is contained, not even a stretch
+  -- of no letters, so that such a block has no longest hand.
+  pub runs-definition : (r : Run) → T (ofLetters w) → List·Memᴰ r (runs w) ↔ AbelianRun w r
+  runs-definition r t = (
+    λ m.
+        let l : (1 ≤ r .d) × AtStart r = mem-runs m in
+        subst (AbelianRun w) (l .1 .whole) (start-run w (r .d) (r .i) (l .1 .start) (l .0) t),
+    λ a. subst (λ (x : Run). List·Memᴰ x (runs w)) (run-listed w r a) (runs-mem (r .d) (r .i) (a .size) (run-start w r a)),
+  )
+
+  -- ---- order
 
   -- the runs with blocks of d letters rise by i
-  runsOf-rise : (d : ℕ) → Ordered RunBefore (runsOf w d)
+  runsOf-rise : (d : ℕ) → Ordered RunBefore (runsOf d)
   unfolding runStarts squareStarts runAt
   runsOf-rise d =
       ordered-map _<_ RunBefore (runAt w d) (λ i k l. inr (refl, l)) (runStarts w d)
@@ -287,8 +308,8 @@ module _ (w : List ℕ) where
   unfolding runs
   runs-rise =
       rise (runs w)
-      (ordered-each _<_ RunBefore (runsOf w) runsOf-rise
-      (λ a b l x y m n. inl (omega (arith, run-size a x m, run-size b y n))) (upFrom 1 (length w)) (ordered-upFrom 1 (length w)))
+      (ordered-each _<_ RunBefore runsOf runsOf-rise
+      (λ a b l x y m n. inl (omega (arith, mem-runsOf a m, mem-runsOf b n))) (upFrom 1 (length w)) (ordered-upFrom 1 (length w)))
     where
       rise : (rs : List Run) → Ordered RunBefore rs → RunsRise rs
       rise [] o = tt
@@ -309,6 +330,38 @@ readRun-words r d i j left right =
     let h : second / 2 ^ 8 % 2 ^ 8 ≡ r .left = omega arith in
     let k : second % 2 ^ 8 ≡ r .right = omega arith in
     rw (e, f, g, h, k)
+
+-- no number of the run is above n
+pub record Within (n : ℕ) (r : Run) : Type 0 where
+  pub size : r .d ≤ n
+  pub start : r .i ≤ n
+  pub end : r .j ≤ n
+  pub leftHand : r .left ≤ n
+  pub rightHand : r .right ≤ n
+
+-- no number of a run in the list is above the word's length
+pub runs-within : (w : List ℕ) {r : Run} → List·Memᴰ r (runs w) → Within (length w) r
+unfolding runAt runEnd leftHand rightHand
+runs-within w {r} m =
+    let l : (1 ≤ r .d) × AtStart w r = mem-runs w m in
+    let k : ℕ = most (repeats w (r .d) (r .i)) (length w) in
+    let j : ℕ = runEnd w (r .d) (r .i) in
+    subst (Within (length w)) (l .1 .whole)
+    (record {
+      size = omega arith;
+      start = omega arith;
+      end = repeats-blocks w (r .d) (r .i) k (run-blocks w (r .d) (r .i) (l .1 .start) .passes) .within;
+      leftHand = omega (arith, most-le (leftFits w (r .d) (r .i)) (r .i - 1));
+      rightHand = omega (arith, most-le (rightFits w (r .d) (r .i) j) (length w - j));
+    })
+
+-- the two words of a run in the list give it back
+pub read-back : (w : List ℕ) (r : Run) → length w ≤ longest → List·Memᴰ r (runs w)
+    → readRun (runWord (r .d) (r .i)) (handsWord (r .j) (r .left) (r .right)) ≡ r
+unfolding longest
+read-back w r short m =
+    let b : Within (length w) r = runs-within w m in
+    readRun-words r (omega arith) (omega arith) (omega arith) (omega arith) (omega arith)
 
 -- each run has two words
 pub length-runWords : (w : List ℕ) → length (runWords w) ≡ 2 * length (runs w)
