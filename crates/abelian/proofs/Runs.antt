@@ -13,7 +13,7 @@ use Rattle.abelian.specs.Lists.{upFrom, same, keep, all}
 use Rattle.abelian.specs.Words.{longest, ofLetters, count, vector, contained, part}
 use Rattle.abelian.specs.Output.{outputWord, runWord, handsWord}
 use Rattle.abelian.specs.Squares.{isSquare, squareStarts}
-use Rattle.abelian.specs.Runs.{Run, most, goesBack, runStarts, repeats, runEnd, leftFits, rightFits, leftHand, rightHand, runAt, runs, wordsOfRun, runWords, readRun, Longest, AbelianRun, RunBefore, RunsRise}
+use Rattle.abelian.specs.Runs.{Run, most, goesBack, runStarts, repeats, runEnd, leftFits, rightFits, leftHand, rightHand, runAt, runs, wordsOfRun, runWords, readRun, Largest, AbelianRun, RunBefore, RunsRise}
 use Rattle.abelian.proofs.Tests.{both, left, right}
 use Rattle.abelian.proofs.Lists.{same-equal, equal-same, mem-keep, keep-mem, all-mem, mem-all, mem-upFrom, upFrom-mem, mem-each, each-mem, below-or-not, le-largest, largest-found, length-each, Ordered, ordered-keep, ordered-upFrom, ordered-map, ordered-each}
 use Rattle.abelian.proofs.Counts.{counts-noneAbove, letters-part, shorter-contained}
@@ -47,12 +47,12 @@ module _ (f : ℕ → Bool) (n : ℕ) where
       ⊎-elim (λ e. let q : k ≡ most f n = omega (arith, le-most k l t) in subst (λ (m : ℕ). T (f m)) q t) (λ m. m .1) most-found
 
   -- where 0 passes, the number found is the largest that passes
-  pub most-longest : T (f 0) → Longest f n (most f n)
-  most-longest t = record { within = most-le; passes = most-passes 0 (omega arith) t; none = λ m l u p. omega (arith, le-most m u p) }
+  pub most-largest : T (f 0) → Largest f n (most f n)
+  most-largest t = record { within = most-le; passes = most-passes 0 (omega arith) t; none = λ m l u p. omega (arith, le-most m u p) }
 
   -- the largest that passes is the number found
-  pub longest-most : (k : ℕ) → Longest f n k → most f n ≡ k
-  longest-most k l =
+  pub largest-most : (k : ℕ) → Largest f n k → most f n ≡ k
+  largest-most k l =
       ⊎-elim (λ u. absurd (l .none (most f n) u most-le (most-passes k (l .within) (l .passes))))
       (λ u. omega (arith, le-most k (l .within) (l .passes))) (below-or-not k (most f n))
 
@@ -93,13 +93,25 @@ module _ (w : List ℕ) (d i : ℕ) where
       (mem-all alike (upFrom 0 k)
       (λ m e. let l : (0 ≤ m) × (m < 0 + k) = mem-upFrom 0 k e in equal-same (blockVector m) firstVector (b .equal m (omega arith))))
 
+  -- a square has two blocks
+  pub two-blocks : 1 ≤ i → i + 2 * d ≤ length w + 1 → T (isSquare w d i) → Blocks 2
+  unfolding isSquare
+  two-blocks start within square = record { within = omega arith; equal = alike }
+    where
+      alike : (m : ℕ) → m < 2 → blockVector m ≡ firstVector
+      alike zero l = let e : i - 1 + 0 * d ≡ i - 1 = omega arith in rw e
+      alike (suc zero) l =
+          let e : i - 1 + 1 * d ≡ i - 1 + d = omega arith in
+          rw e (sym (same-equal (vector (part w (i - 1) d)) (vector (part w (i - 1 + d) d)) square))
+      alike (suc (suc m)) l = absurd (omega arith)
+
   -- the block behind k blocks lies outside the word or differs from the first
   abbrev pub Ends : ℕ → Type 0
   Ends k = i - 1 + k * d + d ≤ length w → blockVector k ≢ firstVector
 
   -- k is the largest number of blocks that repeat: no other follows
-  pub longest-blocks : (k : ℕ) → 1 ≤ d → Longest (repeats w d i) (length w) k → Blocks k × Ends k
-  longest-blocks k size l = (b, λ h e. l .none (suc k) (omega arith) (omega (arith, mul-le-mul-left (suc k) size)) (blocks-repeats (suc k) (more h e)))
+  pub largest-blocks : (k : ℕ) → 1 ≤ d → Largest (repeats w d i) (length w) k → Blocks k × Ends k
+  largest-blocks k size l = (b, λ h e. l .none (suc k) (omega arith) (omega (arith, mul-le-mul-left (suc k) size)) (blocks-repeats (suc k) (more h e)))
     where
       b : Blocks k
       b = repeats-blocks k (l .passes)
@@ -112,8 +124,8 @@ module _ (w : List ℕ) (d i : ℕ) where
           }
 
   -- k blocks that no other follows are the largest number
-  pub blocks-longest : (k : ℕ) → 1 ≤ d → Blocks k → Ends k → Longest (repeats w d i) (length w) k
-  blocks-longest k size b ends =
+  pub blocks-largest : (k : ℕ) → 1 ≤ d → Blocks k → Ends k → Largest (repeats w d i) (length w) k
+  blocks-largest k size b ends =
       record {
         within = omega (arith, mul-le-mul-left k size);
         passes = blocks-repeats k b;
@@ -173,22 +185,10 @@ module _ (w : List ℕ) (d i : ℕ) where
 -- ---- from the list to the record
 
 module _ (w : List ℕ) (d i : ℕ) (s : RunStart w d i) where
-  -- a square has two blocks
-  two-blocks : Blocks w d i 2
-  unfolding isSquare
-  two-blocks = record { within = omega arith; equal = alike }
-    where
-      alike : (m : ℕ) → m < 2 → blockVector w d i m ≡ firstVector w d i
-      alike zero l = let e : i - 1 + 0 * d ≡ i - 1 = omega arith in rw e
-      alike (suc zero) l =
-          let e : i - 1 + 1 * d ≡ i - 1 + d = omega arith in
-          rw e (sym (same-equal (vector (part w (i - 1) d)) (vector (part w (i - 1 + d) d)) (s .square)))
-      alike (suc (suc m)) l = absurd (omega arith)
-
   -- the number of blocks is the largest that repeat
-  run-blocks : Longest (repeats w d i) (length w) (most (repeats w d i) (length w))
+  run-blocks : Largest (repeats w d i) (length w) (most (repeats w d i) (length w))
   run-blocks =
-      most-longest (repeats w d i) (length w)
+      most-largest (repeats w d i) (length w)
       (blocks-repeats w d i 0 (record { within = omega arith; equal = λ m l. absurd (omega arith) }))
 
   -- no letters are contained in a block, which has some
@@ -204,19 +204,19 @@ module _ (w : List ℕ) (d i : ℕ) (s : RunStart w d i) where
   unfolding runAt runEnd leftHand rightHand leftFits rightFits
   start-run size t =
       let k : ℕ = most (repeats w d i) (length w) in
-      let b : Blocks w d i k × Ends w d i k = longest-blocks w d i k size run-blocks in
+      let b : Blocks w d i k × Ends w d i k = largest-blocks w d i k size run-blocks in
       record {
         size = size;
         start = s .start;
         blocks = k;
-        two = le-most (repeats w d i) (length w) 2 (omega arith) (blocks-repeats w d i 2 two-blocks);
+        two = le-most (repeats w d i) (length w) 2 (omega arith) (blocks-repeats w d i 2 (two-blocks w d i (s .start) (s .within) (s .square)));
         whole = refl;
         within = b .0 .within;
         equal = b .0 .equal;
         before = λ l e. s .first (alike-back w d i l e);
         after = b .1;
-        leftHand = most-longest (leftFits w d i) (i - 1) (none-contained size t (i - 1 - 0));
-        rightHand = most-longest (rightFits w d i (runEnd w d i)) (length w - runEnd w d i) (none-contained size t (runEnd w d i));
+        leftHand = most-largest (leftFits w d i) (i - 1) (none-contained size t (i - 1 - 0));
+        rightHand = most-largest (rightFits w d i (runEnd w d i)) (length w - runEnd w d i) (none-contained size t (runEnd w d i));
       }
 
 -- ---- from the record to the list
@@ -244,12 +244,12 @@ module _ (w : List ℕ) (r : Run) (a : AbelianRun w r) where
   unfolding runAt runEnd leftHand rightHand
   run-listed =
       let n : most (repeats w (r .d) (r .i)) (length w) ≡ a .blocks =
-      longest-most (repeats w (r .d) (r .i)) (length w) (a .blocks)
-      (blocks-longest w (r .d) (r .i) (a .blocks) (a .size) blocks-of-run (λ h e. a .after (omega arith) (rw (← a .whole) at e))) in
+      largest-most (repeats w (r .d) (r .i)) (length w) (a .blocks)
+      (blocks-largest w (r .d) (r .i) (a .blocks) (a .size) blocks-of-run (λ h e. a .after (omega arith) (rw (← a .whole) at e))) in
       let e : runEnd w (r .d) (r .i) ≡ r .j = ap (λ (k : ℕ). r .i - 1 + k * r .d) n ∙ sym (a .whole) in
-      let f : most (leftFits w (r .d) (r .i)) (r .i - 1) ≡ r .left = longest-most (leftFits w (r .d) (r .i)) (r .i - 1) (r .left) (a .leftHand) in
+      let f : most (leftFits w (r .d) (r .i)) (r .i - 1) ≡ r .left = largest-most (leftFits w (r .d) (r .i)) (r .i - 1) (r .left) (a .leftHand) in
       let g : most (rightFits w (r .d) (r .i) (r .j)) (length w - r .j) ≡ r .right =
-      longest-most (rightFits w (r .d) (r .i) (r .j)) (length w - r .j) (r .right) (a .rightHand) in
+      largest-most (rightFits w (r .d) (r .i) (r .j)) (length w - r .j) (r .right) (a .rightHand) in
       rw (e, f, g)
 
 -- ---- the theorem

@@ -85,7 +85,7 @@ readRun first second = run (first / 2 ^ 14 % 2 ^ 14) (first % 2 ^ 14) (second / 
 -- ---- what C-11 says
 
 -- k is the largest number up to n that passes the test: it passes, and every larger one is above n or does not.
-pub record Longest (f : ℕ → Bool) (n k : ℕ) : Type 0 where
+pub record Largest (f : ℕ → Bool) (n k : ℕ) : Type 0 where
   pub within : k ≤ n
   pub passes : T (f k)
   pub none : (m : ℕ) → k < m → m ≤ n → T (f m) → ⊥
@@ -102,8 +102,8 @@ pub record AbelianRun (w : List ℕ) (r : Run) : Type 0 where
   pub equal : (m : ℕ) → m < blocks → vector (part w (r .i - 1 + m * r .d) (r .d)) ≡ vector (part w (r .i - 1) (r .d))
   pub before : r .d < r .i → vector (part w (r .i - 1 - r .d) (r .d)) ≢ vector (part w (r .i - 1) (r .d))
   pub after : r .j + r .d ≤ length w → vector (part w (r .j) (r .d)) ≢ vector (part w (r .i - 1) (r .d))
-  pub leftHand : Longest (leftFits w (r .d) (r .i)) (r .i - 1) (r .left)
-  pub rightHand : Longest (rightFits w (r .d) (r .i) (r .j)) (length w - r .j) (r .right)
+  pub leftHand : Largest (leftFits w (r .d) (r .i)) (r .i - 1) (r .left)
+  pub rightHand : Largest (rightFits w (r .d) (r .i) (r .j)) (length w - r .j) (r .right)
 
 -- x stands before y: d first, then i.
 abbrev pub RunBefore : Run → Run → Type 0

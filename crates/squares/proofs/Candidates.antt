@@ -1,13 +1,13 @@
 -- Laws of candidates and their marks: how the marks of one half length and of all half lengths are made, what they mark, and how many
 -- there are.
-use mathlib.Core.Path.{_≡_, refl, sym, ap, _∙_}
+use mathlib.Core.Path.{_≡_, refl, sym, ap, ap₂, _∙_}
 use mathlib.Core.Bool.{Bool, true, false}
 use mathlib.Core.List.{List, [], _∷_, _++_, map, map-append, append-nil, append-assoc}
 use Prim.Native.Nat.{ℕ, zero, suc, _+_, _-_, _*_, _/_, _≤_, _<_}
 use native.Mathlib.Nat.{suc-mul, mul-suc, zero-mul, mul-le-mul}
 use native.Mathlib.Numerals.{add-one}
 use native.Mathlib.Omega.{arith}
-use lib.ListN.{length, take, drop, getD, set, length-map, length-append, take-append-drop}
+use lib.ListN.{length, take, drop, getD, set, length-map, length-append, length-take, take-append-drop}
 use lib.Seq.{take-at, drop-at}
 use lib.Dec.{eqb}
 use borrow.Author.Tests.{eq-eqb, ne-eqb}
@@ -70,12 +70,16 @@ module _ (w : List ℕ) where
   unfolding startMarks
   length-startMarks q = length-map (upFrom 1 (suc (length w) - 2 * q)) (λ (i : ℕ). one (isSquare w q i)) ∙ length-upFrom 1 (suc (length w) - 2 * q)
 
-  -- the mark of a start says whether it is a square's
-  pub start-marked : (q i : ℕ) → 1 ≤ i → i < 1 + (suc (length w) - 2 * q) → eqb (getD (startMarks w q) (i - 1) 0) 1 ≡ isSquare w q i
+  -- the mark of a start is 1 where it is a square's, and else 0
+  pub start-mark : (q i : ℕ) → 1 ≤ i → i ≤ suc (length w) - 2 * q → getD (startMarks w q) (i - 1) 0 ≡ one (isSquare w q i)
   unfolding startMarks
-  start-marked q i l u =
+  start-mark q i l u =
       let e : 1 + (i - 1) ≡ i = omega arith in
-      rw (map-upFrom-at (λ (k : ℕ). one (isSquare w q k)) 1 (suc (length w) - 2 * q) (i - 1) 0 (omega arith), e) (go (isSquare w q i))
+      rw (map-upFrom-at (λ (k : ℕ). one (isSquare w q k)) 1 (suc (length w) - 2 * q) (i - 1) 0 (omega arith), e)
+
+  -- so it says whether it is a square's
+  start-marked : (q i : ℕ) → 1 ≤ i → i ≤ suc (length w) - 2 * q → eqb (getD (startMarks w q) (i - 1) 0) 1 ≡ isSquare w q i
+  start-marked q i l u = rw (start-mark q i l u) (go (isSquare w q i))
     where
       go : (b : Bool) → eqb (one b) 1 ≡ b
       go true = refl
@@ -87,7 +91,7 @@ module _ (w : List ℕ) where
   marked-squareStarts q =
       rw (length-startMarks q)
       (keep-agree (λ (i : ℕ). eqb (getD (startMarks w q) (i - 1) 0) 1) (isSquare w q) (upFrom 1 (suc (length w) - 2 * q))
-      (λ i m. let b : (1 ≤ i) × (i < 1 + (suc (length w) - 2 * q)) = mem-upFrom 1 (suc (length w) - 2 * q) m in start-marked q i (b .0) (b .1)))
+      (λ i m. let b : (1 ≤ i) × (i < 1 + (suc (length w) - 2 * q)) = mem-upFrom 1 (suc (length w) - 2 * q) m in start-marked q i (b .0) (omega (arith, b .1))))
 
   -- ---- the first starts of one half length
 
@@ -190,6 +194,22 @@ module _ (w : List ℕ) where
         ap (λ (l : List ℕ). take (suc (length w) - 2 * q) (drop (length (marksBelow q)) l)) whole
         ∙ ap (take (suc (length w) - 2 * q)) (drop-at (marksBelow q) (startMarks w q ++ (later ++ behind)) (length (marksBelow q)) refl)
         ∙ take-at (startMarks w q) (later ++ behind) (suc (length w) - 2 * q) (length-startMarks q)
+
+    -- so they are lent as the part of that length
+    pub marks-lent : (marks : List ℕ) → take (length (squareMarks w)) marks ≡ squareMarks w → (from : ℕ) → from ≡ length (marksBelow q)
+        → take (from + (length w + 1 - 2 * q) - from) (drop from marks) ≡ startMarks w q
+    marks-lent marks e from read =
+        let s : from + (length w + 1 - 2 * q) - from ≡ suc (length w) - 2 * q = omega arith in
+        ap₂ (λ (k m : ℕ). take k (drop m marks)) s read ∙ marks-at marks e
+
+    -- and that part lies in the slice
+    pub marks-within : (marks : List ℕ) → take (length (squareMarks w)) marks ≡ squareMarks w → (from : ℕ) → from ≡ length (marksBelow q)
+        → from + (suc (length w) - 2 * q) ≤ length marks
+    marks-within marks e from read = omega (arith, read, marks-fit, ap length e, length-take (length (squareMarks w)) marks)
+
+    -- how many marks there are with those of one half length more
+    pub length-marks-more : length (marksBelow (q + 1)) ≡ length (marksBelow q) + (suc (length w) - 2 * q)
+    length-marks-more = omega (arith, ap length marks-more, length-append (marksBelow q) (startMarks w q), length-startMarks q)
 
   -- ---- how many candidates there are
 

@@ -51,8 +51,8 @@ fn mark_starts(word: &[u8], table: &[[u8; LETTERS]; ROWS], half: usize, marks: &
 }
 
 // Marks all candidates in the first places of the slice, the half lengths one behind the other, and returns how many squares the word
-// has.
-pub(crate) fn mark_squares(word: &[u8], table: &[[u8; LETTERS]; ROWS], marks: &mut [u8]) -> usize
+// has. Also for the crates above.
+pub fn mark_squares(word: &[u8], table: &[[u8; LETTERS]; ROWS], marks: &mut [u8]) -> usize
     requires { ⌜ Counted (now word) (now table) ⌝ }
     requires { ⌜ length (squareMarks (now word)) ≤ length (now marks) ⌝ }
     ensures { λ r. ⌜ r ≡ length (squareWords (now (word .entry))) ⌝ }

@@ -1,6 +1,6 @@
 -- `squares::output::write_squares` meets its contract. The invariant of its loop: the marks of the half lengths below `half` are read, and
 -- their words written. The measure is the half lengths that are left. Assumes nothing.
-use mathlib.Core.Path.{_≡_, refl, sym, ap, ap₂, _∙_}
+use mathlib.Core.Path.{_≡_, refl, sym, ap, _∙_}
 use mathlib.Core.List.{List, _++_, map}
 use Prim.Native.Nat.{ℕ, suc, _+_, _-_, _*_, _/_, _≤_}
 use native.Mathlib.Omega.{arith}
@@ -10,9 +10,9 @@ use borrow.Rule.Slice.PartMut.{putMid}
 use Rattle.abelian.specs.Words.{longest}
 use Rattle.abelian.specs.Output.{squareWord, fill}
 use Rattle.abelian.specs.Squares.{squareStarts}
-use Rattle.squares.specs.Marks.{startMarks, squareMarks, markedStarts}
+use Rattle.squares.specs.Marks.{startMarks, markedStarts}
 use Rattle.words.proofs.Lists.{length-fill, fill-lent}
-use Rattle.squares.proofs.Candidates.{length-startMarks, marked-squareStarts, fewer-words, marksBelow, halfWords, wordsBelow, all-words, marks-more, words-more, marks-fit, words-fit, marks-at, candidates-bound}
+use Rattle.squares.proofs.Candidates.{length-startMarks, marked-squareStarts, fewer-words, marksBelow, halfWords, wordsBelow, all-words, words-more, marks-fit, words-fit, marks-lent, marks-within, length-marks-more, candidates-bound}
 use Rattle.squares.proofs.output.write_squares.Statement.{statement}
 use Rattle.squares.proofs.output.write_squares.Tie as tie
 
@@ -57,7 +57,7 @@ module _ (c : tie.In-loop Inv-loop μ-loop) where
 
   -- the marks of this half length are among those of the slice
   marks-left : from + (suc (length w) - 2 * q) ≤ length marks
-  marks-left = omega (arith, inv .read, marks-fit w q (inv .positive) (c .loop-test .taken), ap length (start .pre .1 .0), length-take (length (squareMarks w)) marks)
+  marks-left = marks-within w q (inv .positive) (c .loop-test .taken) marks (start .pre .1 .0) from (inv .read)
 
   -- its words have places
   places-left : at + length (squareStarts w q) ≤ length (c .before .loop .out)
@@ -69,9 +69,7 @@ module _ (c : tie.In-loop Inv-loop μ-loop) where
 
   -- the part that is lent has the marks of this half length
   lent : take (from + (length w + 1 - 2 * q) - from) (drop from marks) ≡ startMarks w q
-  lent =
-      let e : from + (length w + 1 - 2 * q) - from ≡ suc (length w) - 2 * q = omega arith in
-      ap₂ (λ (k m : ℕ). take k (drop m marks)) e (inv .read) ∙ marks-at w q (inv .positive) (c .loop-test .taken) marks (start .pre .1 .0)
+  lent = marks-lent w q (inv .positive) (c .loop-test .taken) marks (start .pre .1 .0) from (inv .read)
 
   marked : markedStarts (take (from + (length w + 1 - 2 * q) - from) (drop from marks)) ≡ squareStarts w q
   marked = ap markedStarts lent ∙ marked-squareStarts w q
@@ -165,7 +163,7 @@ loop-again c =
       positive = omega arith;
       within = omega (arith, in-loop .loop-test .taken);
       size = ap length written ∙ length-fill (wordsBelow word (half + 1)) before (omega (arith, places-left in-loop, h .size, reached, count));
-      read = omega (arith, h .read, ap length (marks-more word half (h .positive) (in-loop .loop-test .taken)), length-append (marksBelow word half) (startMarks word half), length-startMarks word half);
+      read = omega (arith, h .read, length-marks-more word half (h .positive) (in-loop .loop-test .taken));
       reached = reached;
       few = omega (arith, h .few, count, fewer-words word half, length-startMarks word half);
       written = written;

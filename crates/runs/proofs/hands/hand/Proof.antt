@@ -1,0 +1,139 @@
+-- `runs::hands::hand` meets its contract. The invariant of its loop: a stretch of `hand` letters is contained in the block, and none of `past` letters or
+-- more. The measure is the lengths between them. Assumes nothing.
+use mathlib.Core.Path.{_≡_, sym, ap, ap₂, subst, _∙_}
+use mathlib.Core.Logic.{⊎-elim}
+use mathlib.Core.Bool.{Bool, not}
+use mathlib.Core.List.{List}
+use Prim.Native.Nat.{ℕ, suc, _+_, _-_, _/_, _≤_, _<_, min}
+use native.Mathlib.Omega.{arith}
+use lib.ListN.{length}
+use lib.Dec.{T}
+use borrow.Author.Needs.{needs}
+use borrow.Author.Tests.{not-true, not-false}
+use Rattle.abelian.specs.Words.{vector, noneAbove, part}
+use Rattle.abelian.proofs.Tests.{passes, fails}
+use Rattle.words.proofs.Prefixes.{counted-rises, counted-part}
+use Rattle.runs.specs.Hands.{beside, room}
+use Rattle.runs.proofs.Halving.{Placed, Halving, halving-first, halving-down, halving-up, halving-done}
+use Rattle.runs.proofs.hands.hand.Statement.{statement}
+use Rattle.runs.proofs.hands.hand.Tie as tie
+
+abbrev Inv-loop : tie.InvT-loop
+Inv-loop word table half start before at block letters hand₀ past₀ hand past = Halving word half start before at hand past
+
+abbrev μ-loop : tie.MeasureT-loop
+μ-loop word table half start before at block letters hand₀ past₀ hand past = past - hand
+
+placed : (c : tie.Start Inv-loop μ-loop) → Placed (c .args .word .now) (c .args .half) (c .args .start) (c .args .at)
+placed c = record { letters = c .pre .0 .all; start = c .pre .1 .0 .1; whole = c .pre .1 .0 .2; inside = c .pre .1 .1 }
+
+sub-between : tie.Need-sub-between Inv-loop μ-loop
+sub-between c = search needs
+
+sub-between-2 : tie.Need-sub-between-2 Inv-loop μ-loop
+sub-between-2 c = search needs
+
+add-between : tie.Need-add-between Inv-loop μ-loop
+add-between c = search needs
+
+between-requires : tie.Need-between-requires Inv-loop μ-loop
+between-requires c κs =
+    let start = c .before in (
+      (omega (arith, start .pre .0 .short, start .pre .1 .0), omega (arith, start .pre .0 .short, start .pre .1 .0)),
+      counted-rises (start .args .word .now) (start .args .table .now) (start .pre .0) (omega arith) (omega (arith, start .pre .1 .0)),
+    )
+
+letters-beside-requires : tie.Need-letters-beside-requires Inv-loop μ-loop
+letters-beside-requires c κs = search needs
+
+add-past : tie.Need-add-past Inv-loop μ-loop
+add-past c = search needs
+
+loop-holds : tie.Need-loop-holds Inv-loop μ-loop
+loop-holds c =
+    let start = c .before .before .before .before in
+    halving-first (start .args .word .now) (start .args .half) (start .args .start) (start .args .before) (start .args .at) (placed start) (c .if1 .past) (start .pre .1 .0 .0)
+    (⊎-elim (λ t. omega (arith, t .0 .taken, t .1, c .before .letters-beside .ensures)) (λ t. omega (arith, t .0 .left, t .1, c .before .letters-beside .ensures)) (c .if1 .came))
+
+add-loop : tie.Need-add-loop Inv-loop μ-loop
+add-loop c = search needs
+
+add-middle : tie.Need-add-middle Inv-loop μ-loop
+add-middle c = search needs
+
+count-beside-requires : tie.Need-count-beside-requires Inv-loop μ-loop
+count-beside-requires c κs = search needs
+
+exceeds-requires : tie.Need-exceeds-requires Inv-loop μ-loop
+exceeds-requires c κs = search needs
+
+-- what is compared are the vectors of the stretch in the middle and of the block
+module _ (c : tie.After-exceeds Inv-loop μ-loop) where
+  abbrev at-loop : tie.At-loop Inv-loop μ-loop
+  at-loop = c .before .before .before .before
+
+  abbrev start : tie.Start Inv-loop μ-loop
+  start = at-loop .before .before .before .before .before
+
+  abbrev fits : Bool
+  fits =
+      noneAbove (vector (beside (start .args .word .now) (start .args .before) (start .args .at) ((at-loop .loop .hand + at-loop .loop .past) / 2)))
+      (vector (part (start .args .word .now) (start .args .start - 1) (start .args .half)))
+
+  compared : c .exceeds .result ≡ not fits
+  compared =
+      c .exceeds .ensures
+      ∙ ap₂ (λ (u v : List ℕ). not (noneAbove u v)) (c .before .count-beside .ensures)
+      (at-loop .before .before .before .between .ensures ∙ counted-part (start .args .word .now) (start .args .table .now) (start .pre .0) (start .args .start - 1) (start .args .half) (omega (arith, start .pre .1 .0)))
+
+loop-less : tie.Need-loop-less Inv-loop μ-loop
+loop-less c = search needs
+
+loop-again : tie.Need-loop-again Inv-loop μ-loop
+loop-again c =
+    let at-loop = c .before .before .before .before .before in
+    let start = at-loop .before .before .before .before .before in
+    let hand = at-loop .loop .hand in
+    let past = at-loop .loop .past in
+    halving-down (start .args .word .now) (start .args .half) (start .args .start) (start .args .before) (start .args .at) (placed start) hand past (at-loop .loop .inv) ((hand + past) / 2) (omega arith) (omega arith)
+    (fails (fits (c .before)) (not-true (fits (c .before)) (sym (compared (c .before)) ∙ c .if2 .taken)))
+
+loop-less-2 : tie.Need-loop-less-2 Inv-loop μ-loop
+loop-less-2 c = search needs
+
+loop-again-2 : tie.Need-loop-again-2 Inv-loop μ-loop
+loop-again-2 c =
+    let at-loop = c .before .before .before .before .before in
+    let start = at-loop .before .before .before .before .before in
+    let hand = at-loop .loop .hand in
+    let past = at-loop .loop .past in
+    halving-up (start .args .word .now) (start .args .half) (start .args .start) (start .args .before) (start .args .at) (placed start) hand past (at-loop .loop .inv) ((hand + past) / 2) (omega arith) (omega arith)
+    (passes (fits (c .before)) (not-false (fits (c .before)) (sym (compared (c .before)) ∙ c .if2 .left)))
+
+returns : tie.Need-returns Inv-loop μ-loop
+returns c =
+    let start = c .before .before .before .before .before .before in
+    halving-done (start .args .word .now) (start .args .half) (start .args .start) (start .args .before) (start .args .at) (placed start) (c .before .loop .hand) (c .before .loop .past) (c .before .loop .inv) (omega arith)
+
+pub hand-spec : {M : Type 1} → statement M
+hand-spec =
+    tie.close
+    (tie.spec
+    Inv-loop
+    μ-loop
+    sub-between
+    sub-between-2
+    add-between
+    between-requires
+    letters-beside-requires
+    add-past
+    loop-holds
+    add-loop
+    add-middle
+    count-beside-requires
+    exceeds-requires
+    loop-less
+    loop-again
+    loop-less-2
+    loop-again-2
+    returns)

@@ -1,0 +1,137 @@
+-- `runs::list_runs` meets its contract: each of its three answers is the definition's, since the count is that of the definition's words. Assumes nothing.
+use mathlib.Core.Path.{_≡_, sym, ap, _∙_}
+use mathlib.Core.Bool.{false}
+use mathlib.Core.Option.{none}
+use mathlib.Core.List.{List}
+use Prim.Native.Nat.{ℕ, _≤_, _<_}
+use native.Mathlib.Omega.{arith}
+use lib.ListN.{length, take}
+use borrow.Author.Needs.{needs}
+use Rattle.abelian.specs.Words.{longest}
+use Rattle.abelian.specs.Refusals.{wordRefusal}
+use Rattle.abelian.specs.Output.{fill}
+use Rattle.abelian.specs.Answers.{refusing, writing}
+use Rattle.abelian.specs.Runs.{runWords}
+use Rattle.abelian.specs.Calls.{runListing}
+use Rattle.abelian.specs.declared.Refusal.the-variants.{SliceTooShort}
+use Rattle.words.specs.Prefixes.{Counted}
+use Rattle.words.proofs.Refusals.{accepted-none, refused-some, accepted-length, accepted-letters}
+use Rattle.words.proofs.Lists.{take-fill}
+use Rattle.words.proofs.Listings.{listing-refused, listing-short, listing-written}
+use Rattle.squares.specs.Marks.{squareMarks}
+use Rattle.squares.proofs.Candidates.{candidates-bound}
+use Rattle.runs.proofs.list_runs.Statement.{statement}
+use Rattle.runs.proofs.list_runs.Tie as tie
+
+-- what is known once the word is accepted
+module _ (c : tie.After-enum-told) where
+  abbrev start : tie.Start
+  start = c .before .before .before .before .before
+
+  abbrev w : List ℕ
+  w = start .args .word .now
+
+  abbrev out : List ℕ
+  out = start .args .out .now
+
+  accepted : wordRefusal w false 0 0 ≡ none
+  accepted = accepted-none (wordRefusal w false 0 0) (sym (c .before .before .check-word .ensures) ∙ c .enum-told .given .1)
+
+  -- the list is refused for its length, or written
+  too-short : (needed : ℕ) → needed ≡ length (runWords w) → length out < needed → refusing (SliceTooShort needed) out ≡ runListing w out
+  unfolding runListing
+  too-short needed e h = ap (λ (k : ℕ). refusing (SliceTooShort k) out) e ∙ sym (listing-short w out (runWords w) 0 0 0 accepted (omega (arith, e)))
+
+  fits : (needed : ℕ) → needed ≡ length (runWords w) → needed ≤ length out → writing needed 0 0 0 (fill (runWords w) out) ≡ runListing w out
+  unfolding runListing
+  fits needed e h = ap (λ (k : ℕ). writing k 0 0 0 (fill (runWords w) out)) e ∙ sym (listing-written w out (runWords w) 0 0 0 accepted (omega (arith, e)))
+
+check-word-requires : tie.Need-check-word-requires
+check-word-requires c κs = search needs
+
+enum-known-refusal : tie.Need-enum-known-refusal
+enum-known-refusal c = search needs
+
+returns : tie.Need-returns
+unfolding runListing
+returns c =
+    let at-start = c .before .before .before .before .before .before in
+    let word = at-start .args .word .now in
+    sym
+    (listing-refused word (at-start .args .out .now) (runWords word) 0 0 0
+    (refused-some (wordRefusal word false 0 0) (c .before .refusal .given .0 .0) (sym (c .before .before .before .check-word .ensures) ∙ c .before .refusal .given .1)))
+
+enum-told : tie.Need-enum-told
+enum-told c = search needs
+
+prefix-counts-requires : tie.Need-prefix-counts-requires
+prefix-counts-requires c κs = (accepted-letters (w c) (accepted c), accepted-length (w c) (accepted c))
+
+slice-aggregate-mark-squares : tie.Need-slice-aggregate-mark-squares
+slice-aggregate-mark-squares c = search needs
+
+-- the table is that of the word's prefix counts
+counted : (c : tie.After-prefix-counts) → Counted (w (c .before)) (c .prefix-counts .result)
+counted c = record { all = accepted-letters (w (c .before)) (accepted (c .before)); short = accepted-length (w (c .before)) (accepted (c .before)); rows = c .prefix-counts .ensures }
+
+mark-squares-requires : tie.Need-mark-squares-requires
+unfolding longest
+mark-squares-requires c κs =
+    let told = c .before .before .before in
+    (counted (c .before .before), candidates-bound (w told) (accepted-length (w told) (accepted told)))
+
+slice-aggregate-count-runs : tie.Need-slice-aggregate-count-runs
+slice-aggregate-count-runs c = search needs
+
+-- the marks are in the first places
+marked : (c : tie.After-mark-squares) → take (length (squareMarks (w (c .before .before .before .before)))) (c .mark-squares .last .1 .1 .0) ≡ squareMarks (w (c .before .before .before .before))
+marked c = ap (take (length (squareMarks (w (c .before .before .before .before))))) (c .mark-squares .ensures .1) ∙ take-fill (squareMarks (w (c .before .before .before .before))) _
+
+count-runs-requires : tie.Need-count-runs-requires
+count-runs-requires c κs =
+    let told = c .before .before .before .before .before .before in
+    (accepted-length (w told) (accepted told), marked (c .before .before))
+
+returns-2 : tie.Need-returns-2
+returns-2 c =
+    let counting = c .before in
+    too-short (counting .before .before .before .before .before .before .before) (counting .count-runs .result) (counting .count-runs .ensures) (c .if1 .taken)
+
+slice-aggregate-write-runs : tie.Need-slice-aggregate-write-runs
+slice-aggregate-write-runs c = search needs
+
+write-runs-requires : tie.Need-write-runs-requires
+write-runs-requires c κs =
+    let counting = c .before .before .before .before in
+    let marking = counting .before .before .before in (
+      counted (marking .before .before .before),
+      (marked marking, omega (arith, counting .count-runs .ensures, c .before .before .before .if1 .left)),
+    )
+
+same-length : tie.Need-same-length
+same-length c = search needs
+
+returns-3 : tie.Need-returns-3
+returns-3 c =
+    let counting = c .before .before .before .before .before .before .before in
+    ap (writing (counting .count-runs .result) 0 0 0) (c .before .before .write-runs .ensures)
+    ∙ fits (counting .before .before .before .before .before .before .before) (counting .count-runs .result) (counting .count-runs .ensures) (c .before .before .before .before .before .before .if1 .left)
+
+pub list-runs-spec : {M : Type 1} → statement M
+list-runs-spec =
+    tie.close
+    (tie.spec
+    check-word-requires
+    enum-known-refusal
+    returns
+    enum-told
+    prefix-counts-requires
+    slice-aggregate-mark-squares
+    mark-squares-requires
+    slice-aggregate-count-runs
+    count-runs-requires
+    returns-2
+    slice-aggregate-write-runs
+    write-runs-requires
+    same-length
+    returns-3)

@@ -1,0 +1,150 @@
+-- `runs::starts::count_runs` meets its contract. The invariant of its loop: the marks of the half lengths below `half` are read, and the words of their runs
+-- counted. The measure is the half lengths that are left. Assumes nothing.
+use mathlib.Core.Path.{_≡_, refl, ap, _∙_}
+use mathlib.Core.List.{List}
+use Prim.Native.Nat.{ℕ, suc, _+_, _-_, _*_, _≤_}
+use native.Mathlib.Omega.{arith}
+use lib.ListN.{length, take, drop, length-append}
+use borrow.Author.Needs.{needs}
+use Rattle.abelian.specs.Words.{longest}
+use Rattle.squares.specs.Marks.{startMarks}
+use Rattle.squares.proofs.Candidates.{marksBelow, marks-lent, marks-within, length-marks-more}
+use Rattle.runs.specs.Rows.{rowWords}
+use Rattle.runs.proofs.Rows.{rowsBelow, all-rows, rows-more, rows-fit, places-enough}
+use Rattle.runs.proofs.starts.count_runs.Statement.{statement}
+use Rattle.runs.proofs.starts.count_runs.Tie as tie
+
+-- the marks of the half lengths below q are read, and the words of their runs counted
+record Counting (w : List ℕ) (from found q : ℕ) : Type 0 where
+  positive : 1 ≤ q
+  within : 2 * (q - 1) ≤ length w
+  read : from ≡ length (marksBelow w q)
+  counted : found ≡ length (rowsBelow w q)
+
+abbrev Inv-loop : tie.InvT-loop
+Inv-loop word marks from₀ found₀ half₀ from found half = Counting word from found half
+
+abbrev μ-loop : tie.MeasureT-loop
+μ-loop word marks from₀ found₀ half₀ from found half = length word + 1 - half
+
+-- what is known in the loop
+module _ (c : tie.In-loop Inv-loop μ-loop) where
+  abbrev start : tie.Start Inv-loop μ-loop
+  start = c .before .before .before .before
+
+  abbrev w : List ℕ
+  w = start .args .word .now
+
+  abbrev q : ℕ
+  q = c .before .loop .half
+
+  abbrev from : ℕ
+  from = c .before .loop .from
+
+  abbrev inv : Counting w from (c .before .loop .found) q
+  inv = c .before .loop .inv
+
+  -- the marks of this half length are among those of the slice
+  marks-left : from + (suc (length w) - 2 * q) ≤ length (start .args .marks .now)
+  marks-left = marks-within w q (inv .positive) (c .loop-test .taken) (start .args .marks .now) (start .pre .1) from (inv .read)
+
+  lent : take (from + (length w + 1 - 2 * q) - from) (drop from (start .args .marks .now)) ≡ startMarks w q
+  lent = marks-lent w q (inv .positive) (c .loop-test .taken) (start .args .marks .now) (start .pre .1) from (inv .read)
+
+  -- the words are few
+  all-fit : length (rowsBelow w (q + 1)) ≤ 28800
+  unfolding longest
+  all-fit =
+      omega (
+        arith,
+        rows-fit w q (inv .positive) (c .loop-test .taken),
+        places-enough w (start .pre .0),
+        ap length (rows-more w q (inv .positive)),
+        length-append (rowsBelow w q) (rowWords w q),
+      )
+
+loop-holds : tie.Need-loop-holds Inv-loop μ-loop
+loop-holds c = record { positive = omega arith; within = omega arith; read = refl; counted = refl }
+
+mul-loop : tie.Need-mul-loop Inv-loop μ-loop
+unfolding longest
+mul-loop c = search needs
+
+add-to : tie.Need-add-to Inv-loop μ-loop
+add-to c = search needs
+
+mul-to : tie.Need-mul-to Inv-loop μ-loop
+mul-to c = search needs
+
+sub-to : tie.Need-sub-to Inv-loop μ-loop
+sub-to c = search needs
+
+add-to-2 : tie.Need-add-to-2 Inv-loop μ-loop
+add-to-2 c = omega (arith, marks-left c)
+
+sub-count-starts : tie.Need-sub-count-starts Inv-loop μ-loop
+sub-count-starts c = search needs
+
+part-count-starts-start : tie.Need-part-count-starts-start Inv-loop μ-loop
+part-count-starts-start c = search needs
+
+part-count-starts-end : tie.Need-part-count-starts-end Inv-loop μ-loop
+part-count-starts-end c = omega (arith, marks-left c)
+
+count-starts-requires : tie.Need-count-starts-requires Inv-loop μ-loop
+count-starts-requires c κs = lent (c .before)
+
+counted-more : (c : tie.After-count-starts Inv-loop μ-loop) → c .before .before .before .loop .found + c .count-starts .result ≡ length (rowsBelow (w (c .before .before)) (q (c .before .before) + 1))
+counted-more c =
+    let in-loop = c .before .before in
+    let h = in-loop .before .loop .inv in
+    omega (arith, h .counted, c .count-starts .ensures, ap length (rows-more (w in-loop) (q in-loop) (h .positive)), length-append (rowsBelow (w in-loop) (q in-loop)) (rowWords (w in-loop) (q in-loop)))
+
+add-found : tie.Need-add-found Inv-loop μ-loop
+add-found c = omega (arith, counted-more c, all-fit (c .before .before))
+
+add-half : tie.Need-add-half Inv-loop μ-loop
+unfolding longest
+add-half c = search needs
+
+loop-less : tie.Need-loop-less Inv-loop μ-loop
+loop-less c = search needs
+
+loop-again : tie.Need-loop-again Inv-loop μ-loop
+loop-again c =
+    let in-loop = c .before .before in
+    let h = in-loop .before .loop .inv in
+    record {
+      positive = omega arith;
+      within = omega (arith, in-loop .loop-test .taken);
+      read = omega (arith, h .read, length-marks-more (w in-loop) (q in-loop) (h .positive) (in-loop .loop-test .taken));
+      counted = counted-more c;
+    }
+
+returns : tie.Need-returns Inv-loop μ-loop
+returns c =
+    let h = c .before .loop .inv in
+    let start = c .before .before .before .before in
+    h .counted ∙ ap length (all-rows (start .args .word .now) (c .before .loop .half) (h .within) (c .loop-test .left))
+
+pub count-runs-spec : {M : Type 1} → statement M
+count-runs-spec =
+    tie.close
+    (tie.spec
+    Inv-loop
+    μ-loop
+    loop-holds
+    mul-loop
+    add-to
+    mul-to
+    sub-to
+    add-to-2
+    sub-count-starts
+    part-count-starts-start
+    part-count-starts-end
+    count-starts-requires
+    add-found
+    add-half
+    loop-less
+    loop-again
+    returns)

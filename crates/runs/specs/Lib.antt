@@ -1,0 +1,3 @@
+-- The definitions of this crate beside those of crate abelian: the test of a start, the words of one block length, and stretches beside a place.
+pub mod Rows
+pub mod Hands

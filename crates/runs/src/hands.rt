@@ -1,0 +1,90 @@
+// Where the whole blocks of a run end, and how long its hands are.
+use abelian::LETTERS;
+use words::ROWS;
+use words::parts::between;
+use words::parts::exceeds;
+ghost use mathlib.Core.Path.{_≡_};
+ghost use Prim.Native.Nat.{_+_, _≤_};
+ghost use lib.Dec.{T};
+ghost use lib.ListN.{length};
+ghost use Rattle.abelian.specs.Words.{vector};
+ghost use Rattle.abelian.specs.Squares.{isSquare};
+ghost use Rattle.abelian.specs.Runs.{runEnd};
+ghost use Rattle.words.specs.Prefixes.{Counted};
+ghost use Rattle.squares.specs.Marks.{startMarks};
+ghost use Rattle.runs.specs.Hands.{beside, room, handOf};
+
+// Where the whole blocks end that begin with the square at a start: as long as a square stands one block further on, there is one block more.
+pub(crate) fn run_end(word: &[u8], marks: &[u8], half: usize, start: usize) -> usize
+    requires { ⌜ now marks ≡ startMarks (now word) half ⌝ }
+    requires { ⌜ (1 ≤ half) × (1 ≤ start) × (start ≤ length (now marks)) ⌝ }
+    requires { ⌜ T (isSquare (now word) half start) ⌝ }
+    ensures { λ r. ⌜ r ≡ runEnd (now (word .entry)) half start ⌝ }
+{
+    let mut last = start;
+    while last + half <= marks.len() {
+        if marks[last + half - 1] == 0 {
+            return last - 1 + 2 * half;
+        }
+        last += half;
+    }
+    last - 1 + 2 * half
+}
+
+// The counts of the letters in a stretch on one side of a place.
+fn count_beside(
+    word: &[u8],
+    table: &[[u8; LETTERS]; ROWS],
+    before: bool,
+    at: usize,
+    size: usize,
+) -> [u8; LETTERS]
+    requires { ⌜ Counted (now word) (now table) ⌝ }
+    requires { ⌜ at ≤ length (now word) ⌝ }
+    requires { ⌜ size ≤ room (now word) before at ⌝ }
+    ensures { λ r. ⌜ r ≡ vector (beside (now (word .entry)) before at size) ⌝ }
+{
+    if before {
+        between(table, at - size, at)
+    } else {
+        between(table, at, at + size)
+    }
+}
+
+// How many letters stand on one side of a place.
+fn letters_beside(word: &[u8], before: bool, at: usize) -> usize
+    requires { ⌜ at ≤ length (now word) ⌝ }
+    ensures { λ r. ⌜ r ≡ room (now (word .entry)) before at ⌝ }
+{
+    if before { at } else { word.len() - at }
+}
+
+// The length of a hand: the longest stretch on one side of a place that is contained in the block. What is contained stays so when it is shortened, so that
+// the lengths are halved until two neighbours are left.
+pub(crate) fn hand(
+    word: &[u8],
+    table: &[[u8; LETTERS]; ROWS],
+    half: usize,
+    start: usize,
+    before: bool,
+    at: usize,
+) -> usize
+    requires { ⌜ Counted (now word) (now table) ⌝ }
+    requires { ⌜ (1 ≤ half) × (1 ≤ start) × (start + half ≤ length (now word) + 1) ⌝ }
+    requires { ⌜ at ≤ length (now word) ⌝ }
+    ensures { λ r. ⌜ r ≡ handOf (now (word .entry)) half start before at ⌝ }
+{
+    let block = between(table, start - 1, start - 1 + half);
+    let letters = letters_beside(word, before, at);
+    let mut hand = 0;
+    let mut past = if letters < half { letters + 1 } else { half };
+    while hand + 1 < past {
+        let middle = (hand + past) / 2;
+        if exceeds(count_beside(word, table, before, at, middle), block) {
+            past = middle;
+        } else {
+            hand = middle;
+        }
+    }
+    hand
+}

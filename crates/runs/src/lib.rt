@@ -1,0 +1,38 @@
+// Abelian runs of a word (document 003, as C-11 has them): whole blocks side by side with equal count vectors, as far as these go on, and on both sides
+// the longest stretch that is contained in a block. A run is a chain of squares, each one block behind the one before it, so that it is read off the marks of
+// the squares. Their words are counted first, so that a list that is too long is refused before the first place of the slice is written.
+mod hands;
+mod output;
+mod starts;
+
+use abelian::Outcome;
+use abelian::Refusal;
+use abelian::Wrote;
+use output::write_runs;
+use squares::CANDIDATES;
+use squares::marks::mark_squares;
+use starts::count_runs;
+ghost use mathlib.Core.Path.{_≡_};
+ghost use Rattle.abelian.specs.Answers.{answeredWrote};
+ghost use Rattle.abelian.specs.Calls.{runListing};
+
+// Places enough for the runs of every word: a bound, two for each candidate of a square. No word is known to need as many.
+pub const PLACES: usize = 2 * CANDIDATES;
+
+// Writes all Abelian runs of the word, two words each, by the length of a block and then by start.
+pub fn list_runs(word: &[u8], out: &mut [u32]) -> Wrote
+    ensures { λ r. ⌜ answeredWrote r (now (out .exit)) ≡ runListing (now (word .entry)) (now (out .entry)) ⌝ }
+{
+    if let Outcome::Refused(refusal) = words::check_word(word) {
+        return Wrote::Refused(refusal);
+    }
+    let table = words::prefix_counts(word);
+    let mut marks = [0u8; CANDIDATES];
+    mark_squares(word, &table, &mut marks);
+    let needed = count_runs(word, &marks);
+    if needed > out.len() {
+        return Wrote::Refused(Refusal::SliceTooShort(needed));
+    }
+    write_runs(word, &table, &marks, out);
+    Wrote::Words(needed)
+}

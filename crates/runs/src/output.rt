@@ -1,0 +1,116 @@
+// Output words of runs, written from the marks of squares.
+use crate::hands::hand;
+use crate::hands::run_end;
+use crate::starts::starts_run;
+use abelian::LETTERS;
+use words::ROWS;
+ghost use mathlib.Core.Path.{_≡_};
+ghost use Prim.Native.Nat.{_*_, _≤_};
+ghost use lib.Dec.{T};
+ghost use lib.ListN.{length, take};
+ghost use Rattle.abelian.specs.Output.{runWord, handsWord, fill};
+ghost use Rattle.abelian.specs.Squares.{isSquare};
+ghost use Rattle.abelian.specs.Words.{longest};
+ghost use Rattle.abelian.specs.Runs.{runAt, wordsOfRun, runWords};
+ghost use Rattle.words.specs.Prefixes.{Counted};
+ghost use Rattle.squares.specs.Marks.{startMarks, squareMarks};
+ghost use Rattle.runs.specs.Rows.{rowWords};
+
+// The kinds of a run's two words, above the other parts.
+const RUN: u32 = 5 * 268435456;
+
+const HANDS: u32 = 6 * 268435456;
+
+// What one of the upper part counts in a run's first word; in its second, what one of the end and one of the left hand count.
+const UPPER: u32 = 16384;
+
+const END: u32 = 65536;
+
+const LEFT: u32 = 256;
+
+// A run's first word: the length of a block above, and the start below.
+fn run_word(half: usize, start: usize) -> u32
+    requires { ⌜ half ≤ longest ⌝ }
+    requires { ⌜ start ≤ longest ⌝ }
+    ensures { λ r. ⌜ r ≡ runWord half start ⌝ }
+{
+    RUN + (half as u32) * UPPER + start as u32
+}
+
+// A run's second word: where its whole blocks end, and its hands.
+fn hands_word(end: usize, left: usize, right: usize) -> u32
+    requires { ⌜ end ≤ longest ⌝ }
+    requires { ⌜ left ≤ longest ⌝ }
+    requires { ⌜ right ≤ longest ⌝ }
+    ensures { λ r. ⌜ r ≡ handsWord end left right ⌝ }
+{
+    HANDS + (end as u32) * END + (left as u32) * LEFT + right as u32
+}
+
+// Writes the two words of the run that begins with the square at a start.
+fn write_run(
+    word: &[u8],
+    table: &[[u8; LETTERS]; ROWS],
+    marks: &[u8],
+    half: usize,
+    start: usize,
+    out: &mut [u32],
+)
+    requires { ⌜ Counted (now word) (now table) ⌝ }
+    requires { ⌜ now marks ≡ startMarks (now word) half ⌝ }
+    requires { ⌜ (1 ≤ half) × (1 ≤ start) × (start ≤ length (now marks)) ⌝ }
+    requires { ⌜ T (isSquare (now word) half start) ⌝ }
+    requires { ⌜ 2 ≤ length (now out) ⌝ }
+    ensures { λ _. ⌜ now (out .exit) ≡ fill (wordsOfRun (runAt (now (word .entry)) half start)) (now (out .entry)) ⌝ }
+{
+    let end = run_end(word, marks, half, start);
+    let left = hand(word, table, half, start, true, start - 1);
+    let right = hand(word, table, half, start, false, end);
+    out[0] = run_word(half, start);
+    out[1] = hands_word(end, left, right);
+}
+
+// Writes the words of the runs of one block length into the first places of the slice, and returns how many they are.
+fn write_starts(
+    word: &[u8],
+    table: &[[u8; LETTERS]; ROWS],
+    marks: &[u8],
+    half: usize,
+    out: &mut [u32],
+) -> usize
+    requires { ⌜ Counted (now word) (now table) ⌝ }
+    requires { ⌜ now marks ≡ startMarks (now word) half ⌝ }
+    requires { ⌜ 1 ≤ half ⌝ }
+    requires { ⌜ length (rowWords (now word) half) ≤ length (now out) ⌝ }
+    ensures { λ r. ⌜ r ≡ length (rowWords (now (word .entry)) half) ⌝ }
+    ensures { λ _. ⌜ now (out .exit) ≡ fill (rowWords (now (word .entry)) half) (now (out .entry)) ⌝ }
+{
+    let mut at = 0;
+    let mut start = 0;
+    while start < marks.len() {
+        start += 1;
+        if starts_run(word, marks, half, start) {
+            write_run(word, table, marks, half, start, &mut out[at..]);
+            at += 2;
+        }
+    }
+    at
+}
+
+// Writes the words of all runs into the first places of the slice, each block length's behind those of the smaller ones.
+pub(crate) fn write_runs(word: &[u8], table: &[[u8; LETTERS]; ROWS], marks: &[u8], out: &mut [u32])
+    requires { ⌜ Counted (now word) (now table) ⌝ }
+    requires { ⌜ take (length (squareMarks (now word))) (now marks) ≡ squareMarks (now word) ⌝ }
+    requires { ⌜ length (runWords (now word)) ≤ length (now out) ⌝ }
+    ensures { λ _. ⌜ now (out .exit) ≡ fill (runWords (now (word .entry))) (now (out .entry)) ⌝ }
+{
+    let mut from = 0;
+    let mut at = 0;
+    let mut half = 1;
+    while 2 * half <= word.len() {
+        let to = from + (word.len() + 1 - 2 * half);
+        at += write_starts(word, table, &marks[from..to], half, &mut out[at..]);
+        from = to;
+        half += 1;
+    }
+}
