@@ -1,13 +1,13 @@
 /*
- * Luffbutton: cycles in event words. It finds the Abelian periods, the full periods, the Abelian squares and the covers of a word, and has
- * a tracker that knows the periods of a word while letters join its end and are taken back.
+ * Luffbutton: cycles in event words. It finds the Abelian periods, the full periods, the Abelian squares, the Abelian runs and the covers
+ * of a word, and has a tracker that knows the periods of a word while letters join its end and are taken back.
  *
  * HOW TO LINK. `bin/install PREFIX` puts this header, lib/libluffbutton.a and lib/pkgconfig/luffbutton.pc under PREFIX. With
  * PREFIX/lib/pkgconfig in PKG_CONFIG_PATH:
  *
  *     cc program.c $(pkg-config --cflags --libs luffbutton)
  *
- * The archive is for x86-64 Linux (System V calls, 64-bit size_t). It has fourteen functions that can be linked, all with the prefix luff_,
+ * The archive is for x86-64 Linux (System V calls, 64-bit size_t). It has fifteen functions that can be linked, all with the prefix luff_,
  * and needs two of the C library: memcpy and memset. This header is for C99 or later and for C++.
  *
  * TERMS. A word is n bytes, each a letter: LUFF_FIRST_LETTER and the bytes behind it, LUFF_LETTERS in all, a to p. It has LUFF_LONGEST
@@ -35,6 +35,11 @@
  * letters behind them. A cover is a set of one or more intervals of the word, none the whole word, with equal counts, that together hold
  * every position; a word of fewer than 2 letters has none.
  *
+ * A maximal repetition is a stretch i to j of two or more whole blocks of d letters, d >= 1, with equal counts, where the block of d letters
+ * before i lies outside the word or differs in its counts, and so does the one after j. Its left and right hands are the longest stretches
+ * of the word that end at i - 1 and begin at j + 1 and are contained in a block; a hand may have no letters. An Abelian run is a maximal
+ * repetition with its hands. Of abaababa, the run with d = 3 and i = 1 has j = 6, left 0, right 2: aba, aba, then ba.
+ *
  * The ended length of a pair is the smallest m from h + p to n at which the pair is no Abelian period of the first m letters, or 0 where
  * there is none. A pair that has ended does not become an Abelian period again by more letters.
  *
@@ -61,6 +66,7 @@
  *
  *     luff_list_plain, luff_list_skipping           1.8 to 2.2
  *     luff_list_squares, luff_report                1.8 to 2.2
+ *     luff_list_runs                                GROWTH-TO-MEASURE
  *     luff_tracker_add, n being the letters held    1.8 to 2.0
  *     luff_list_full                                1.0 to 1.2
  *     luff_find_cover                               1.0
@@ -84,8 +90,8 @@ extern "C" {
 #define LUFF_RESTRICT restrict
 #endif
 
-/* The version of this interface. It rises with each change of an answer or of a layout. */
-#define LUFF_VERSION 2
+/* The version of this interface. It rises with each change of an answer or of a layout, and with each function that joins. */
+#define LUFF_VERSION 3
 
 /* The byte of the first letter, a, and how many letters there are. */
 #define LUFF_FIRST_LETTER 97
@@ -104,6 +110,12 @@ extern "C" {
 #define LUFF_MOST_FULL 20
 #define LUFF_MOST_REPORT 28941
 
+/*
+ * Places enough for the runs of every word, 115,200 bytes: each run begins with a square of its own, and is two words. It is a bound and
+ * not the longest list, which is not known.
+ */
+#define LUFF_BOUND_RUNS 28800
+
 /* The limits on stack, in bytes. LUFF_STACK_TRACKER is for each of a tracker's calls, and LUFF_STACK is the greatest. */
 #define LUFF_STACK_JUDGE 4096
 #define LUFF_STACK_LIST_PLAIN 24576
@@ -111,6 +123,7 @@ extern "C" {
 #define LUFF_STACK_LIST_FULL 4096
 #define LUFF_STACK_LIST_FULL_SCALED 4096
 #define LUFF_STACK_LIST_SQUARES 20480
+#define LUFF_STACK_LIST_RUNS 20480
 #define LUFF_STACK_FIND_COVER 4096
 #define LUFF_STACK_REPORT 49152
 #define LUFF_STACK_TRACKER 12288
@@ -138,19 +151,29 @@ enum luff_refusal {
 };
 
 /*
- * An output word has its kind in the top 4 bits, then an upper and a lower number of 14 bits each.
+ * An output word has its kind in the top 4 bits, then, but for LUFF_KIND_HANDS, an upper and a lower number of 14 bits each.
  *   LUFF_KIND_PERIOD   upper: period p       lower: head h
  *   LUFF_KIND_SQUARE   upper: half length    lower: start
  *   LUFF_KIND_FULL     upper: full period p  lower: n / p
+ *   LUFF_KIND_RUN      upper: d              lower: i
  *   LUFF_KIND_REPORT   upper: n              lower: 1 where a cover exists, else 0
+ *
+ * A run is two words, one of LUFF_KIND_RUN and behind it one of LUFF_KIND_HANDS. The second has three numbers below its kind: j in 12 bits,
+ * then the lengths of the left hand and of the right hand in 8 bits each. LUFF_WORD_KIND and the three macros LUFF_RUN_.. read it;
+ * LUFF_WORD_UPPER and LUFF_WORD_LOWER do not.
  */
 #define LUFF_KIND_PERIOD 1u
 #define LUFF_KIND_SQUARE 2u
 #define LUFF_KIND_FULL 3u
+#define LUFF_KIND_RUN 5u
+#define LUFF_KIND_HANDS 6u
 #define LUFF_KIND_REPORT 8u
 #define LUFF_WORD_KIND(word) ((uint32_t)(word) >> 28)
 #define LUFF_WORD_UPPER(word) (((uint32_t)(word) >> 14) & 0x3fffu)
 #define LUFF_WORD_LOWER(word) ((uint32_t)(word) & 0x3fffu)
+#define LUFF_RUN_END(word) (((uint32_t)(word) >> 16) & 0xfffu)
+#define LUFF_RUN_LEFT(word) (((uint32_t)(word) >> 8) & 0xffu)
+#define LUFF_RUN_RIGHT(word) ((uint32_t)(word) & 0xffu)
 
 /* The length of a head, and that of a period: two types, so that neither is taken for the other. */
 struct luff_head {
@@ -243,6 +266,9 @@ struct luff_scaled luff_list_full_scaled(const uint8_t *LUFF_RESTRICT word, size
 
 /* All Abelian squares, by rising half length, and for one half length by rising start. */
 struct luff_wrote luff_list_squares(const uint8_t *LUFF_RESTRICT word, size_t n, uint32_t *LUFF_RESTRICT out, size_t places);
+
+/* All Abelian runs, by rising d, and for one d by rising i. Each is two words; `written` and the value of refusal 3 count words. */
+struct luff_wrote luff_list_runs(const uint8_t *LUFF_RESTRICT word, size_t n, uint32_t *LUFF_RESTRICT out, size_t places);
 
 /*
  * A report: one word of LUFF_KIND_REPORT, then the full periods, the periods and the squares. With fewer than LUFF_MOST_REPORT places the
