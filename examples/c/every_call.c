@@ -1,4 +1,4 @@
-/* Each call, with the words of document 01: its refusal, the value of that, its other numbers and what it writes. */
+/* Each call, with the words of documents 01 and 02: its refusal, the value of that, its other numbers and what it writes. */
 #include <stdio.h>
 #include <string.h>
 
@@ -14,11 +14,22 @@ static const uint8_t *bytes(const char *word)
     return (const uint8_t *)word;
 }
 
-/* Prints the words of a list: kind, upper and lower number. */
+/* Prints the numbers of an output word: kind, upper and lower number; of a run's second word kind, end, left and right hand. */
+static void print_word(uint32_t word)
+{
+    printf(" %u", (unsigned)LUFF_WORD_KIND(word));
+    if (LUFF_WORD_KIND(word) == LUFF_KIND_HANDS) {
+        printf("/%u/%u/%u", (unsigned)LUFF_RUN_END(word), (unsigned)LUFF_RUN_LEFT(word), (unsigned)LUFF_RUN_RIGHT(word));
+    } else {
+        printf("/%u/%u", (unsigned)LUFF_WORD_UPPER(word), (unsigned)LUFF_WORD_LOWER(word));
+    }
+}
+
+/* Prints the words of a list. */
 static void print_words(size_t written)
 {
     for (size_t i = 0; i < written; i++) {
-        printf(" %u/%u/%u", (unsigned)LUFF_WORD_KIND(out[i]), (unsigned)LUFF_WORD_UPPER(out[i]), (unsigned)LUFF_WORD_LOWER(out[i]));
+        print_word(out[i]);
     }
     printf("\n");
 }
@@ -61,6 +72,12 @@ static void list_squares(const char *word)
 {
     printf("squares %s: ", word);
     print_list(luff_list_squares(bytes(word), strlen(word), out, PLACES));
+}
+
+static void list_runs(const char *word, size_t places)
+{
+    printf("runs %s, %zu places: ", word, places);
+    print_list(luff_list_runs(bytes(word), strlen(word), out, places));
 }
 
 static void find_cover(const char *word)
@@ -118,6 +135,8 @@ int main(void)
     list_full("abba");
     list_full("aabb");
     list_squares("abba");
+    list_runs("abaababa", PLACES);
+    list_runs("abaababa", 9);
     find_cover("abba");
     find_cover("aaab");
     find_cover("aBc");

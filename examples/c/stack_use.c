@@ -75,6 +75,11 @@ static void list_squares(void)
     luff_list_squares(word, LUFF_LONGEST, out, way.places);
 }
 
+static void list_runs(void)
+{
+    luff_list_runs(word, LUFF_LONGEST, out, way.places);
+}
+
 static void find_cover(void)
 {
     luff_find_cover(word, LUFF_LONGEST);
@@ -134,6 +139,7 @@ static const struct {
     {"list_full", list_full, LUFF_STACK_LIST_FULL},
     {"list_full_scaled", list_full_scaled, LUFF_STACK_LIST_FULL_SCALED},
     {"list_squares", list_squares, LUFF_STACK_LIST_SQUARES},
+    {"list_runs", list_runs, LUFF_STACK_LIST_RUNS},
     {"find_cover", find_cover, LUFF_STACK_FIND_COVER},
     {"report", report, LUFF_STACK_REPORT},
     {"fresh", fresh, LUFF_STACK_TRACKER},
