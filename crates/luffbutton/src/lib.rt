@@ -18,7 +18,7 @@ use numbers::of_verdict;
 use numbers::of_wrote;
 ghost use mathlib.Core.Path.{_≡_};
 ghost use Rattle.abelian.specs.Periods.{pair};
-ghost use Rattle.abelian.specs.Calls.{judging, plainListing, skippingListing, fullListing, scaledListing, squareListing, coverAnswer, reporting};
+ghost use Rattle.abelian.specs.Calls.{judging, plainListing, skippingListing, fullListing, scaledListing, squareListing, runListing, coverAnswer, reporting};
 ghost use Rattle.luffbutton.specs.Numbers.{verdictNumbers, coverNumbers, listedNumbers, scaledNumbers, wroteNumbers};
 
 // Judges a pair.
@@ -67,6 +67,14 @@ pub extern "C" fn luff_list_squares(word: &[u8], out: &mut [u32]) -> LuffWrote
     ensures { λ r. ⌜ wroteNumbers r (now (out .exit)) ≡ squareListing (now (word .entry)) (now (out .entry)) ⌝ }
 {
     of_wrote(squares::list_squares(word, out))
+}
+
+// Lists the Abelian runs of the word.
+#[no_mangle]
+pub extern "C" fn luff_list_runs(word: &[u8], out: &mut [u32]) -> LuffWrote
+    ensures { λ r. ⌜ wroteNumbers r (now (out .exit)) ≡ runListing (now (word .entry)) (now (out .entry)) ⌝ }
+{
+    of_wrote(runs::list_runs(word, out))
 }
 
 // Searches for a cover of the word.
