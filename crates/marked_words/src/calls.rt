@@ -18,6 +18,7 @@ use judge::judge;
 use listers::list_plain;
 use listers::list_skipping;
 use report::report;
+use runs::list_runs;
 use squares::list_squares;
 ghost use Prim.Native.Nat.{_≤_};
 
@@ -51,6 +52,7 @@ fn list(call: u8, body: &[u8], out: &mut [u32]) -> Wrote {
         b'l' => list_full(body, out),
         b'd' => say_scale(list_full_scaled(body, out)),
         b's' => list_squares(body, out),
+        b'f' => list_runs(body, out),
         b'y' => replayed(body, out),
         b'k' => tracked(body, out),
         _ => report(body, out),

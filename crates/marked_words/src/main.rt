@@ -1,10 +1,11 @@
-// The test program of document 01's marked words, edges and refusals. It reads calls from standard input, one to a line, and prints each line
-// with what the call answered. The file `stdin` has the calls, and `stdout` what document 01 says of them.
+// The test program of document 01's marked words, edges and refusals, and of document 02's requests. It reads calls from standard input, one to
+// a line, and prints each line with what the call answered. The file `stdin` has the calls, and `stdout` what the two documents say of them.
 //
 // A call's name stands in the first 8 bytes, at their right end, so that its last letter, by which it is known, is the eighth. Behind it come
 // a space, two bytes for numbers, a colon, and a word or the bytes of a log:
 //
 //        plain 40:abba      the plain lister on `abba`, with a slice of 40 places; and so `skipping`, `full`, `scaled`, `squares`
+//      runs of 40:abba      the Abelian runs, which are known by f, since s stands for squares
 //       report 40:abba      the report, whose words are printed as the numbers that they are
 //        cover 00:abba      the search for a cover
 //        judge 04:abba      the judge on the pair of head 0 and period 4; a `*` for one of them is the largest number that there is

@@ -7,6 +7,10 @@ const KIND: u32 = 268435456;
 // What one of the upper part counts; the lower part is below it.
 const UPPER: u32 = 16384;
 
+// In the second word of a run: what one of its end counts, and one of its left hand; the right hand is below that.
+const END: u32 = 65536;
+const LEFT: u32 = 256;
+
 // What each place of a slice holds before a call. The kind of an output word is above 0, so none is this number.
 pub(crate) const UNWRITTEN: u32 = 9;
 
@@ -43,8 +47,17 @@ fn say_place(place: u32) {
     say_number(b' ', place as usize);
 }
 
-// Prints an output word by its kind: a period as h,p, a square as start:half, a full period as p*(n / p). A raw word, and one of any other
-// kind, is printed as the number that it is.
+// Prints the second word of a run: j<left>right.
+fn say_hands(word: u32) {
+    let end = word % KIND / END;
+    let left = word / LEFT % LEFT;
+    let right = word % LEFT;
+    say_two(end, b'<', left);
+    say_number(b'>', right as usize);
+}
+
+// Prints an output word by its kind: a period as h,p, a square as start:half, a full period as p*(n / p), a run as i/d and behind it its end
+// and its hands. A raw word, and one of any other kind, is printed as the number that it is.
 fn say_word(raw: bool, word: u32) {
     if raw {
         return say_place(word);
@@ -56,6 +69,8 @@ fn say_word(raw: bool, word: u32) {
         1 => say_two(lower, b',', upper),
         2 => say_two(lower, b':', upper),
         3 => say_two(upper, b'*', lower),
+        5 => say_two(lower, b'/', upper),
+        6 => say_hands(word),
         _ => say_place(word),
     }
 }
