@@ -19,7 +19,7 @@ use Rattle.abelian.specs.Calls.{judging, periodWords, reportWords, plain
 use Rattle.abelian.specs.Trackers.{entries, freshTracker, adding, takingBack, clearing, trackerListing}
 use Rattle.abelian.specs.declared.Tracker.{Tracker}
 
--- A row: a word, an answer or a tracker, and what document 01 says of it.
+-- A row: a word, an answer or a tracker, and what the documents say of it.
 pub data Row : Type 0 where
   -- the Abelian periods, in order
   periodsAre : List ℕ → List Pair → Row
@@ -79,7 +79,7 @@ refusal number value out =
 unfoldable pub answersOneOf : Answer → List ℕ → Bool
 answersOneOf x ms = isOneOf (x .cover) ms && sameAnswer x (deciding (one (ltb 0 (length ms))) 0 0 (x .cover))
 
--- what document 01 says is so by the definitions
+-- what the row says is so by the definitions
 unfoldable pub rowHolds : Row → Bool
 rowHolds (periodsAre w xs) = same (periodWords w) (map periodWord xs)
 rowHolds (fullAre w ps) = same (fullPeriods w) ps
@@ -231,20 +231,26 @@ more =
     ∷ tracks (clearing (made 241 [] []) .tracker) (0 ∷ []) (pair 0 1) 0 []
     ∷ []
 
--- The word of document 003's Figure 2.
+-- The word of document 003's Figure 2, whose text in our copy has one b too many.
 abbrev figure : List ℕ
 figure = a ∷ a ∷ b ∷ b ∷ a ∷ c ∷ b ∷ b ∷ a ∷ a ∷ b ∷ b ∷ b ∷ b ∷ []
+
+abbrev ababa : List ℕ
+ababa = a ∷ b ∷ a ∷ b ∷ a ∷ []
 
 -- Rows of document 02.
 unfoldable pub requested : List Row
 requested =
-    -- C-11
+    -- C-11: the empty word, hands of no letters, and document 003's words
     runsAre [] []
     ∷ runsAre (a ∷ a ∷ a ∷ a ∷ []) (run 1 1 4 0 0 ∷ run 2 1 4 0 0 ∷ [])
     ∷ runsAre abaababa (run 1 3 4 0 0 ∷ run 2 2 7 1 1 ∷ run 2 5 8 1 0 ∷ run 3 1 6 0 2 ∷ run 3 3 8 2 0 ∷ [])
     ∷ runsAre figure
     (run 1 1 2 0 0 ∷ run 1 3 4 0 0 ∷ run 1 7 8 0 0 ∷ run 1 9 10 0 0 ∷ run 1 11 14 0 0 ∷ run 2 2 5 1 0 ∷ run 2 8 11 1 1 ∷ run 2 11 14 0 0
     ∷ run 3 7 12 0 2 ∷ [])
-    ∷ writes (runListing abba (5 ∷ 6 ∷ 7 ∷ 8 ∷ 9 ∷ [])) 4 0 0 0 (1342193666 ∷ 1610809344 ∷ 1342210049 ∷ 1610874880 ∷ 9 ∷ [])
-    ∷ refuses (runListing abba (5 ∷ 6 ∷ 7 ∷ [])) 3 4 (5 ∷ 6 ∷ 7 ∷ [])
+    -- a hand that would be one letter longer beside a block of one letter more
+    ∷ runsAre (a ∷ a ∷ a ∷ b ∷ a ∷ b ∷ b ∷ b ∷ []) (run 1 1 3 0 0 ∷ run 1 6 8 0 0 ∷ run 2 3 6 1 1 ∷ [])
+    -- the two words by their numbers, with a right and with a left hand
+    ∷ writes (runListing ababa (5 ∷ 6 ∷ 7 ∷ 8 ∷ 9 ∷ [])) 4 0 0 0 (1342210049 ∷ 1610874881 ∷ 1342210050 ∷ 1610940672 ∷ 9 ∷ [])
+    ∷ refuses (runListing ababa (5 ∷ 6 ∷ 7 ∷ [])) 3 4 (5 ∷ 6 ∷ 7 ∷ [])
     ∷ []

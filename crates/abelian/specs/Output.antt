@@ -24,7 +24,7 @@ fullWord n p = outputWord 3 p (n / p)
 unfoldable pub runWord : ℕ → ℕ → ℕ
 runWord d i = outputWord 5 d i
 
--- C-11's "kind 6": the second of a run's two words, where its whole blocks end and how long its hands are.
+-- C-11's "kind 6 as 6 × 2^28 + j × 2^16 + left × 2^8 + right": the second of a run's two words.
 unfoldable pub handsWord : ℕ → ℕ → ℕ → ℕ
 handsWord j left right = 6 * 2 ^ 28 + j * 2 ^ 16 + left * 2 ^ 8 + right
 

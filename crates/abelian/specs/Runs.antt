@@ -1,4 +1,4 @@
--- Abelian runs (document 003, section 3.3, in the words of C-11).
+-- Abelian runs: document 003 defines them in its section 2 and finds them in section 3.3; the words here are those of C-11.
 use Prim.Native.Nat.{ℕ, suc, _+_, _-_, _*_, _/_, _%_, _^_, _≤_, _<_}
 use mathlib.Core.Path.{_≡_}
 use mathlib.Core.Logic.{_⊎_, _≢_}
@@ -32,7 +32,8 @@ most f n = largest (keep f (upFrom 0 (suc n)))
 unfoldable pub goesBack : List ℕ → ℕ → ℕ → Bool
 goesBack w d i = ltb d i && isSquare w d (i - d)
 
--- the starts i of half length d at which a square stands and none stands at i − d
+-- the starts i of the maximal repetitions with blocks of d letters: a square of half length d stands at i, and the block before i lies outside the word or
+-- differs
 unfoldable pub runStarts : List ℕ → ℕ → List ℕ
 runStarts w d = keep (λ (i : ℕ). not (goesBack w d i)) (squareStarts w d)
 
@@ -42,7 +43,7 @@ repeats w d i k =
     leb (i - 1 + k * d) (length w)
     && all (λ (m : ℕ). same (vector (part w (i - 1 + m * d) d)) (vector (part w (i - 1) d))) (upFrom 0 k)
 
--- j: where the last of the blocks ends that go on with the same vector
+-- j: the position at which the last of the whole blocks with equal vectors ends
 unfoldable pub runEnd : List ℕ → ℕ → ℕ → ℕ
 runEnd w d i = i - 1 + most (repeats w d i) (length w) * d
 
@@ -54,11 +55,11 @@ leftFits w d i k = contained (vector (part w (i - 1 - k) k)) (vector (part w (i 
 unfoldable pub rightFits : List ℕ → ℕ → ℕ → ℕ → ℕ → Bool
 rightFits w d i j k = contained (vector (part w j k)) (vector (part w (i - 1) d))
 
--- "Left hand": the largest length of a stretch in the word that ends at i − 1 and is contained in a block.
+-- The left hand's length: that of the longest stretch of the word that ends at i − 1 and is contained in a block.
 unfoldable pub leftHand : List ℕ → ℕ → ℕ → ℕ
 leftHand w d i = most (leftFits w d i) (i - 1)
 
--- "Right hand": the largest length of a stretch in the word that begins at j + 1 and is contained in a block.
+-- The right hand's length: that of the longest stretch of the word that begins at j + 1 and is contained in a block.
 unfoldable pub rightHand : List ℕ → ℕ → ℕ → ℕ → ℕ
 rightHand w d i j = most (rightFits w d i j) (length w - j)
 
@@ -66,7 +67,7 @@ rightHand w d i j = most (rightFits w d i j) (length w - j)
 unfoldable pub runAt : List ℕ → ℕ → ℕ → Run
 runAt w d i = run d i (runEnd w d i) (leftHand w d i) (rightHand w d i (runEnd w d i))
 
--- The Abelian runs of a word, by d and then by i.
+-- The Abelian runs of a word of letters, by d and then by i.
 unfoldable pub runs : List ℕ → List Run
 runs w = each (upFrom 1 (length w)) (λ (d : ℕ). map (runAt w d) (runStarts w d))
 
@@ -90,8 +91,9 @@ pub record Largest (f : ℕ → Bool) (n k : ℕ) : Type 0 where
   pub passes : T (f k)
   pub none : (m : ℕ) → k < m → m ≤ n → T (f m) → ⊥
 
--- An Abelian run, of a word of letters: two or more whole blocks of d letters from i to j with equal vectors; the block of d letters before i lies
--- outside the word or differs, and so does the one after j; the hands are the longest stretches of the word beside them that are contained in a block.
+-- An Abelian run, of a word of letters. A maximal repetition: two or more whole blocks of d letters from i to j with equal vectors; the block of d letters
+-- before i lies outside the word or differs, and so does the one after j. Its hands: the longest stretches of the word, ending at i − 1 and beginning at j + 1,
+-- that are contained in a block.
 pub record AbelianRun (w : List ℕ) (r : Run) : Type 0 where
   pub size : 1 ≤ r .d
   pub start : 1 ≤ r .i
@@ -109,7 +111,7 @@ pub record AbelianRun (w : List ℕ) (r : Run) : Type 0 where
 abbrev pub RunBefore : Run → Run → Type 0
 RunBefore x y = (x .d < y .d) ⊎ ((x .d ≡ y .d) × (x .i < y .i))
 
--- Each run of the list stands before all behind it: the list rises strictly by d and then i.
+-- Each run of the list stands before all behind it: the list rises strictly by d and then i, and "every run is listed once".
 abbrev pub RunsRise : List Run → Type 0
 RunsRise [] = Unit {0}
 RunsRise (x ∷ xs) = ((y : Run) → List·Memᴰ y xs → RunBefore x y) × RunsRise xs

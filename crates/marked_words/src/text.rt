@@ -9,6 +9,7 @@ const UPPER: u32 = 16384;
 
 // In the second word of a run: what one of its end counts, and one of its left hand; the right hand is below that.
 const END: u32 = 65536;
+
 const LEFT: u32 = 256;
 
 // What each place of a slice holds before a call. The kind of an output word is above 0, so none is this number.

@@ -16,7 +16,7 @@ abbrev pub room : List ℕ → Bool → ℕ → ℕ
 room w before at = pick before at (length w - at)
 
 -- the stretch of k letters on that side is contained in the block of d letters from position i on
-abbrev pub besideFits : List ℕ → ℕ → ℕ → Bool → ℕ → ℕ → Bool
+unfoldable pub besideFits : List ℕ → ℕ → ℕ → Bool → ℕ → ℕ → Bool
 besideFits w d i before at k = contained (vector (beside w before at k)) (vector (part w (i - 1) d))
 
 -- the largest length of such a stretch

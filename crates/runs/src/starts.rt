@@ -16,7 +16,8 @@ pub(crate) fn starts_run(word: &[u8], marks: &[u8], half: usize, start: usize) -
     if start <= half {
         marks[start - 1] == 1
     } else {
-        marks[start - 1 - half] < marks[start - 1]
+        let back = marks[start - 1 - half];
+        back < marks[start - 1]
     }
 }
 

@@ -10,20 +10,20 @@ sub-result c = search needs
 shared-slice-read-result : tie.Need-shared-slice-read-result
 shared-slice-read-result c = search needs
 
+sub-back : tie.Need-sub-back
+sub-back c = search needs
+
+sub-back-2 : tie.Need-sub-back-2
+sub-back-2 c = search needs
+
+shared-slice-read-back : tie.Need-shared-slice-read-back
+shared-slice-read-back c = search needs
+
 sub-result-2 : tie.Need-sub-result-2
 sub-result-2 c = search needs
 
-sub-result-3 : tie.Need-sub-result-3
-sub-result-3 c = search needs
-
 shared-slice-read-result-2 : tie.Need-shared-slice-read-result-2
 shared-slice-read-result-2 c = search needs
-
-sub-result-4 : tie.Need-sub-result-4
-sub-result-4 c = search needs
-
-shared-slice-read-result-3 : tie.Need-shared-slice-read-result-3
-shared-slice-read-result-3 c = search needs
 
 returns : tie.Need-returns
 returns c =
@@ -41,10 +41,10 @@ starts-run-spec =
     (tie.spec
     sub-result
     shared-slice-read-result
+    sub-back
+    sub-back-2
+    shared-slice-read-back
     sub-result-2
-    sub-result-3
     shared-slice-read-result-2
-    sub-result-4
-    shared-slice-read-result-3
     returns
     returns-2)
