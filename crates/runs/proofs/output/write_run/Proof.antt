@@ -68,19 +68,23 @@ run-word-requires c κs =
 slice-write-out : tie.Need-slice-write-out
 slice-write-out c = search needs
 
-hands-word-requires : tie.Need-hands-word-requires
-hands-word-requires c κs =
-    let ended = c .before .before .before in
+-- the hands are small
+hands-small : (c : tie.After-hand2) → (c .before .hand .result ≤ longest) × (c .hand2 .result ≤ longest)
+hands-small c =
+    let ended = c .before .before in
     let start = ended .before .before .before .before in
     let w = start .args .word .now in
     let d = start .args .half in
     let i = start .args .start in (
-      omega (arith, ends-inside ended, start .pre .0 .short),
-      (
-        omega (arith, c .before .before .hand .ensures, hand-le w d i true (i - 1), inside start, start .pre .0 .short),
-        omega (arith, c .before .hand2 .ensures, hand-le w d i false (ended .run-end .result), start .pre .0 .short),
-      ),
+      omega (arith, c .before .hand .ensures, hand-le w d i true (i - 1), inside start, start .pre .0 .short),
+      omega (arith, c .hand2 .ensures, hand-le w d i false (ended .run-end .result), start .pre .0 .short),
     )
+
+hands-word-requires : tie.Need-hands-word-requires
+hands-word-requires c κs =
+    let ended = c .before .before .before in
+    let small : (c .before .before .hand .result ≤ longest) × (c .before .hand2 .result ≤ longest) = hands-small (c .before) in
+    (omega (arith, ends-inside ended, ended .before .before .before .before .pre .0 .short), (omega arith, omega arith))
 
 slice-write-out-2 : tie.Need-slice-write-out-2
 slice-write-out-2 c = search needs
