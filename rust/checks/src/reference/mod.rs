@@ -1,15 +1,17 @@
-//! A second implementation, written from document 01 alone and in the plainest way: every block is counted anew, every definition is
-//! tried word by word, and the tracker's machine is a list of letters. It shares no route with the library, which goes by prefix
-//! counts and boards.
+//! A second implementation, written from document 01 and, for runs, from request C-11 alone, in the plainest way: every block is counted
+//! anew, every definition is tried word by word, and the tracker's machine is a list of letters. It shares no route with the library,
+//! which goes by prefix counts and boards.
 mod covers;
 mod full_periods;
 mod periods;
+mod runs;
 mod squares;
 mod tracker;
 mod words;
 
 pub use covers::cover_lengths;
 pub use periods::{ended_length, in_range, is_period, pairs, periods, Pair};
+pub use runs::{runs, Run};
 pub use squares::squares;
 pub use tracker::{Machine, Prefixes};
 pub use words::is_letter;

@@ -12,5 +12,6 @@ mod peers;
 mod random_words;
 mod records;
 mod reports;
+mod runs;
 mod support;
 mod vectors;

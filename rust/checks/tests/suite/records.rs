@@ -1,10 +1,11 @@
-//! Reads the records of tests/data/base.txt. Lines that begin with # say how they are written.
+//! Reads the records of tests/data/base.txt and of tests/data/runs.txt. Lines that begin with # say how they are written.
 use checks::calls::Answer;
-use checks::reference::{pairs, Pair};
+use checks::reference::{pairs, Pair, Run};
 use luffbutton::{Fields, Head, Period, BOARD, LONGEST};
 use std::collections::HashMap;
 
 const TEXT: &str = include_str!("../data/base.txt");
+const RUNS: &str = include_str!("../data/runs.txt");
 
 /// A word with everything that document 01 defines of it.
 pub struct WordRecord {
@@ -62,6 +63,12 @@ pub struct CallsRecord {
     pub before: Fields,
     pub calls: Vec<Answered>,
     pub after: Fields,
+}
+
+/// A word and its Abelian runs.
+pub struct RunsRecord {
+    pub word: Vec<u8>,
+    pub runs: Vec<Run>,
 }
 
 /// All records of the file, by kind.
@@ -273,4 +280,31 @@ pub fn read() -> Records {
         }
     }
     records
+}
+
+fn runs_record(line: &str) -> RunsRecord {
+    let sides = line.strip_prefix("runs ").and_then(|x| x.split_once(" ->"));
+    let (letters, listed) = sides.expect("a word, an arrow, its runs");
+    let run = |numbers: Vec<usize>| {
+        let [d, i, j, left, right] = numbers[..] else {
+            panic!("{numbers:?} is no run");
+        };
+        Run {
+            d,
+            i,
+            j,
+            left,
+            right,
+        }
+    };
+    RunsRecord {
+        word: word(letters),
+        runs: parts(listed).into_iter().map(run).collect(),
+    }
+}
+
+/// Reads the file of runs.
+pub fn read_runs() -> Vec<RunsRecord> {
+    let lines = RUNS.lines().filter(|line| !line.starts_with('#'));
+    lines.map(runs_record).collect()
 }
