@@ -101,3 +101,21 @@ pub fn fibonacci(n: usize) -> Vec<u8> {
 pub fn alternating(n: usize) -> Vec<u8> {
     (0..n).map(|i| FIRST_LETTER + (i % 2) as u8).collect()
 }
+
+/// The first n letters of abba, abba, and so on, of which there are many Abelian runs: 5,420 of 240 letters.
+pub fn abba(n: usize) -> Vec<u8> {
+    b"abba".iter().copied().cycle().take(n).collect()
+}
+
+/// A word of n letters.
+pub type Word = fn(usize) -> Vec<u8>;
+
+/// The kinds of words on which calls are timed.
+pub const TIMED_WORDS: [(&str, Word); 6] = [
+    ("one letter", |n| vec![FIRST_LETTER; n]),
+    ("two by turns", alternating),
+    ("Fibonacci", fibonacci),
+    ("random of 2", |n| Generator::new(2).uniform(n, 2)),
+    ("random of 4", |n| Generator::new(4).uniform(n, 4)),
+    ("random of 16", |n| Generator::new(16).uniform(n, 16)),
+];

@@ -2,12 +2,14 @@
 //! as it does, and gives the same numbers and output words.
 mod full_periods;
 mod periods;
+mod runs;
 mod select;
 mod squares;
 mod tracker;
 
 pub use full_periods::list_full_002;
 pub use periods::{list_brute_force, list_counting_anew};
+pub use runs::list_runs_003;
 pub use select::list_select_based;
 pub use squares::list_sliding_windows;
 pub use tracker::{add_in_place, OnLine};

@@ -12,7 +12,7 @@ pub fn list_sliding_windows(word: &[u8], out: &mut [u32]) -> Answer {
     let n = word.len();
     let mut found = Vec::with_capacity(n * n / 4);
     for half in 1..=n / 2 {
-        slide(word, half, &mut found);
+        slide(word, half, |start| found.push(square_word(half, start + 1)));
     }
     write(&found, out)
 }
@@ -37,8 +37,9 @@ impl Difference {
     }
 }
 
-/// The squares of one half length.
-fn slide(word: &[u8], half: usize, found: &mut Vec<u32>) {
+/// Finds the squares of one half length: the number of letters before each, rising.
+#[inline]
+pub(super) fn slide(word: &[u8], half: usize, mut found: impl FnMut(usize)) {
     let mut difference = Difference {
         counts: [0; LETTERS],
         differing: 0,
@@ -50,7 +51,7 @@ fn slide(word: &[u8], half: usize, found: &mut Vec<u32>) {
     }
     for start in 0..=word.len() - 2 * half {
         if difference.differing == 0 {
-            found.push(square_word(half, start + 1));
+            found(start);
         }
         if let Some(&entering) = word.get(start + 2 * half) {
             difference.change(word[start], -1);

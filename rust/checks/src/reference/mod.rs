@@ -46,6 +46,13 @@ fn full_words(word: &[u8]) -> Vec<u32> {
     full_periods(word).iter().map(word_of).collect()
 }
 
+/// The words of a word's Abelian runs, two for each: d and i, then j and the hands.
+fn run_words(word: &[u8]) -> Vec<u32> {
+    let hands = |run: &Run| 6 * (1 << 28) + run.j * (1 << 16) + run.left * (1 << 8) + run.right;
+    let words_of = |run: Run| [output_word(5, run.d, run.i), hands(&run) as u32];
+    runs(word).into_iter().flat_map(words_of).collect()
+}
+
 /// A report: its head, then full periods, periods and squares.
 fn report_words(word: &[u8]) -> Vec<u32> {
     let mut words = vec![output_word(8, word.len(), usize::from(has_cover(word)))];
@@ -91,6 +98,13 @@ fn list_call(
         numbers(answer)
     } else {
         answer
+    }
+}
+
+impl Reference {
+    /// Writes all Abelian runs: refusals 1, 2, 3.
+    pub fn list_runs(&self, word: &[u8], out: &mut [u32]) -> Answer {
+        list_call(word, out, run_words, |answer| answer)
     }
 }
 

@@ -1,41 +1,43 @@
 //! The algorithms that the benchmarks compare with give the second implementation's answers.
-use crate::support::{alphabets, lent, places_enough, seeded, shown, ListCall};
+use crate::records::read_runs;
+use crate::support::{alphabets, lent, places_enough, seeded, shown};
 use checks::calls::{Answer, Calls};
-use checks::generator::{alternating, fibonacci};
+use checks::generator::{abba, alternating, fibonacci, TIMED_WORDS};
 use checks::peers::{add_in_place, list_brute_force, list_counting_anew, list_full_002};
-use checks::peers::{list_select_based, list_sliding_windows, OnLine};
+use checks::peers::{list_runs_003, list_select_based, list_sliding_windows, OnLine};
 use checks::reference::Reference;
 use luffbutton::{Fields, FIRST_LETTER, LONGEST};
 
 type Peer = fn(&[u8], &mut [u32]) -> Answer;
 
-/// Each algorithm with the call that it stands beside.
-const PEERS: [(&str, Peer, ListCall); 5] = [
-    ("brute force", list_brute_force, |calls, word, out| {
-        calls.list_plain(word, out)
+/// Each algorithm, and the second implementation's call that it stands beside.
+const PEERS: [(&str, Peer, Peer); 6] = [
+    ("brute force", list_brute_force, |word, out| {
+        Reference.list_plain(word, out)
     }),
-    ("counting anew", list_counting_anew, |calls, word, out| {
-        calls.list_plain(word, out)
+    ("counting anew", list_counting_anew, |word, out| {
+        Reference.list_plain(word, out)
     }),
-    ("select-based", list_select_based, |calls, word, out| {
-        calls.list_skipping(word, out)
+    ("select-based", list_select_based, |word, out| {
+        Reference.list_skipping(word, out)
     }),
-    ("document 002", list_full_002, |calls, word, out| {
-        calls.list_full_scaled(word, out)
+    ("document 002", list_full_002, |word, out| {
+        Reference.list_full_scaled(word, out)
     }),
-    (
-        "sliding windows",
-        list_sliding_windows,
-        |calls, word, out| calls.list_squares(word, out),
-    ),
+    ("sliding windows", list_sliding_windows, |word, out| {
+        Reference.list_squares(word, out)
+    }),
+    ("document 003", list_runs_003, |word, out| {
+        Reference.list_runs(word, out)
+    }),
 ];
 
 fn compare(word: &[u8]) {
     let _shown = shown(word);
-    for (name, peer, call) in PEERS {
+    for (name, peer, reference) in PEERS {
         for places in [places_enough(word.len()), 3] {
             let answered = lent(places, |out| peer(word, out));
-            let due = lent(places, |out| call(&Reference, word, out));
+            let due = lent(places, |out| reference(word, out));
             assert_eq!(answered, due, "{name}, {places} places");
         }
     }
@@ -62,6 +64,28 @@ fn lists_of_words_with_many_cycles_and_of_bad_words() {
     }
     compare(b"abc?");
     compare(&[FIRST_LETTER; LONGEST + 1]);
+}
+
+/// The words on which calls are timed.
+#[test]
+fn lists_of_timed_words() {
+    for (_, word) in TIMED_WORDS {
+        for n in [30, 60, 120, 240] {
+            compare(&word(n));
+        }
+    }
+}
+
+/// The words of the vectors of runs, and abba sixty times, which has 5,420.
+#[test]
+fn lists_of_words_with_runs() {
+    for record in read_runs() {
+        compare(&record.word);
+    }
+    let word = abba(LONGEST);
+    compare(&word);
+    let listed = lent(places_enough(LONGEST), |out| list_runs_003(&word, out)).0;
+    assert_eq!((listed.number, listed.written), (0, 2 * 5420));
 }
 
 #[test]

@@ -56,7 +56,8 @@ pub const LIST_CALLS: [(&str, ListCall); 6] = [
 /// Places behind a lent slice that no call may write to.
 const GUARDS: usize = 8;
 
-/// As many places as no list of a word of n letters exceeds: a report's head, the full periods, all pairs in range and all squares.
+/// As many places as no list of a word of n letters exceeds: a report's head, the full periods, all pairs in range and all candidates of
+/// squares. A list of runs has two words for each of these at most, of which there are no more than pairs.
 pub fn places_enough(n: usize) -> usize {
     1 + MOST_FULL + pairs_in_range(n) + n * n / 4
 }

@@ -1,28 +1,15 @@
 //! What is timed: the library's calls and their peers, on six kinds of words.
 use crate::measure::{best, lower, on_copies, repeated, Timed, Turn, SIZES};
 use checks::calls::{Answer, Calls};
-use checks::generator::{alternating, fibonacci, Generator};
+use checks::generator::{Word, TIMED_WORDS};
 use checks::library::Library;
 use checks::peers::{add_in_place, list_brute_force, list_counting_anew, list_full_002};
 use checks::peers::{list_select_based, list_sliding_windows, OnLine};
-use luffbutton::{findings, Fields, Finding, FIRST_LETTER, LONGEST, MOST_REPORT};
+use luffbutton::{findings, Fields, Finding, LONGEST, MOST_REPORT};
 use std::hint::black_box;
 
 /// A byte that an add refuses.
 const NOT_A_LETTER: u8 = b'?';
-
-/// A word of n letters.
-type Word = fn(usize) -> Vec<u8>;
-
-/// The kinds of words.
-const WORDS: [(&str, Word); 6] = [
-    ("one letter", |n| vec![FIRST_LETTER; n]),
-    ("two by turns", alternating),
-    ("Fibonacci", fibonacci),
-    ("random of 2", |n| Generator::new(2).uniform(n, 2)),
-    ("random of 4", |n| Generator::new(4).uniform(n, 4)),
-    ("random of 16", |n| Generator::new(16).uniform(n, 16)),
-];
 
 /// A way to make a call on a word. A call that writes no list leaves the places as they are.
 type WordCaller = fn(&[u8], &mut [u32]) -> Answer;
@@ -78,7 +65,7 @@ pub const WORD_CALLS: [WordCall; 7] = [
 /// Times a function for each word and each size.
 fn over_words(time: impl Fn(&[u8]) -> Vec<f64>) -> Vec<(&'static str, Vec<Vec<f64>>)> {
     let sizes = |word: Word| SIZES.iter().map(|&n| time(&word(n))).collect();
-    WORDS
+    TIMED_WORDS
         .iter()
         .map(|&(name, word)| (name, sizes(word)))
         .collect()
@@ -232,7 +219,7 @@ impl Trackers {
 pub fn time_trackers() -> Trackers {
     let time = |&(name, word): &(&'static str, Word)| (name, time_tracker(&word(LONGEST)));
     Trackers {
-        words: WORDS.iter().map(time).collect(),
+        words: TIMED_WORDS.iter().map(time).collect(),
     }
 }
 
@@ -262,5 +249,5 @@ pub fn trials() -> Vec<(&'static str, [usize; 3])> {
         let skipping = Library.list_skipping(&word, &mut out);
         (name, [plain.trials, skipping.trials, plain.written])
     };
-    WORDS.iter().map(tried).collect()
+    TIMED_WORDS.iter().map(tried).collect()
 }
