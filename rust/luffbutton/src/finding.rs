@@ -35,7 +35,8 @@ pub enum Finding {
 }
 
 impl Finding {
-    /// What the word says, or none where its kind is not one of these.
+    /// What the word says, or none where its kind is not one of these. A run is two words, of which neither says it alone: they are none,
+    /// and [`Run::of`](crate::Run::of) reads both.
     pub fn of(word: u32) -> Option<Finding> {
         let upper = (word >> 14 & 0x3fff) as usize;
         let lower = (word & 0x3fff) as usize;
@@ -62,7 +63,7 @@ impl Finding {
 }
 
 /// What the words of a list say, in their order. The words are those that a list call has written, `&out[..written]`; one of another kind
-/// is passed over.
+/// is passed over, and so are those of runs, which [`runs`](crate::runs) reads.
 pub fn findings(words: &[u32]) -> impl DoubleEndedIterator<Item = Finding> + Clone + '_ {
     words.iter().filter_map(|&word| Finding::of(word))
 }

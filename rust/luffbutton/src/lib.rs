@@ -1,6 +1,6 @@
-//! Luffbutton finds cycles in event words: Abelian periods, full periods, Abelian squares and covers of a word, and a tracker that
-//! knows the periods of a word while letters join its end and are taken back. This crate is a safe interface over the proved
-//! library's C interface; the header `include/luffbutton.h` defines the terms.
+//! Luffbutton finds cycles in event words: Abelian periods, full periods, Abelian squares, Abelian runs and covers of a word, and a
+//! tracker that knows the periods of a word while letters join its end and are taken back. This crate is a safe interface over the
+//! proved library's C interface; the header `include/luffbutton.h` defines the terms.
 //!
 //! A word is a slice of letters, the bytes `a` to `p`, [`LONGEST`] at most. Every call takes any input; what it cannot do it
 //! refuses, with a reason of its own type ([`Refusal`]). A refused call changes nothing; only a [`Tracker::replay`] whose list is
@@ -8,7 +8,7 @@
 //! and changed by its calls alone. Nothing is allocated. A call takes up to 48 KB of stack, one on a
 //! tracker up to 12 KB (the header's `LUFF_STACK_..`, measured), and a [`Tracker`] has 14,768 bytes.
 //!
-//! A list is written to the first places of a lent slice of 32-bit words, and [`findings`] reads it:
+//! A list is written to the first places of a lent slice of 32-bit words, and [`findings`] reads it ([`runs`] a list of runs):
 //!
 //! ```
 //! use luffbutton::{findings, Finding, Head, Period, Tracker};
@@ -31,14 +31,16 @@ mod finding;
 #[doc(hidden)]
 pub mod numbers;
 mod refusal;
+mod run;
 mod tracker;
 mod vocabulary;
 mod words;
 
 pub use finding::{findings, Finding};
 pub use refusal::Refusal;
+pub use run::{runs, Run};
 pub use tracker::Tracker;
-pub use vocabulary::{Fields, Head, Period, BOARD, CLEAR, FIRST_LETTER, LETTERS, LONGEST};
-pub use vocabulary::{MOST_FULL, MOST_PERIODS, MOST_REPORT, MOST_SQUARES, TAKE_BACK};
-pub use words::{find_cover, judge, list_full, list_full_scaled, list_plain, list_skipping};
-pub use words::{list_squares, report, Cover, Listed, Scaled, Verdict};
+pub use vocabulary::{Fields, Head, Period, BOARD, BOUND_RUNS, CLEAR, FIRST_LETTER, LETTERS};
+pub use vocabulary::{LONGEST, MOST_FULL, MOST_PERIODS, MOST_REPORT, MOST_SQUARES, TAKE_BACK};
+pub use words::{find_cover, judge, list_full, list_full_scaled, list_plain, list_runs};
+pub use words::{list_skipping, list_squares, report, Cover, Listed, Scaled, Verdict};

@@ -113,6 +113,7 @@ extern "C" {
     fn luff_list_full(word: *const u8, n: usize, out: *mut u32, places: usize) -> Wrote;
     fn luff_list_full_scaled(word: *const u8, n: usize, out: *mut u32, places: usize) -> Scaled;
     fn luff_list_squares(word: *const u8, n: usize, out: *mut u32, places: usize) -> Wrote;
+    fn luff_list_runs(word: *const u8, n: usize, out: *mut u32, places: usize) -> Wrote;
     fn luff_report(word: *const u8, n: usize, out: *mut u32, places: usize) -> Wrote;
     fn luff_find_cover(word: *const u8, n: usize) -> Cover;
     fn luff_tracker_fresh_fields(
@@ -154,9 +155,9 @@ extern "C" {
     ) -> Replayed;
 }
 
-/// Calls one of the archive's six functions that list something of a word.
+/// Calls one of the archive's seven functions that list something of a word.
 fn list_by<Numbers>(call: ListCall<Numbers>, word: &[u8], out: &mut [u32]) -> Numbers {
-    // SAFETY: `call` is one of the six declared above (this function is private, and no other is handed to it), and both slices are
+    // SAFETY: `call` is one of the seven declared above (this function is private, and no other is handed to it), and both slices are
     // valid for their lengths.
     unsafe { call(word.as_ptr(), word.len(), out.as_mut_ptr(), out.len()) }
 }
@@ -190,6 +191,11 @@ pub fn list_full_scaled(word: &[u8], out: &mut [u32]) -> Scaled {
 /// Lists the Abelian squares.
 pub fn list_squares(word: &[u8], out: &mut [u32]) -> Wrote {
     list_by(luff_list_squares, word, out)
+}
+
+/// Lists the Abelian runs, two words for each.
+pub fn list_runs(word: &[u8], out: &mut [u32]) -> Wrote {
+    list_by(luff_list_runs, word, out)
 }
 
 /// Writes a report.

@@ -93,6 +93,26 @@ pub fn list_squares(word: &[u8], out: &mut [u32]) -> Result<usize, Refusal> {
     written(numbers::list_squares(word, out))
 }
 
+/// Writes all Abelian runs, by the length of a block and then by start, two words for each, and returns how many words: refusals 1, 2, 3.
+/// The words needed, which a slice that is too short is refused with, are two for each run as well. [`runs`](crate::runs) reads what is
+/// written, and a slice of [`BOUND_RUNS`](crate::BOUND_RUNS) places is never too short.
+///
+/// ```
+/// use luffbutton::{list_runs, runs, Period, Run};
+///
+/// let mut out = [0; 16];
+/// let written = list_runs(b"abaababa", &mut out).unwrap();
+/// assert_eq!(written, 10);
+/// // Five runs, and one of them has blocks of three letters from position 1 on: aba, aba, and ba for its right hand.
+/// let run = Run { period: Period(3), start: 1, end: 6, left: 0, right: 2 };
+/// let mut found = runs(&out[..written]);
+/// assert_eq!(found.clone().count(), 5);
+/// assert!(found.any(|other| other == run));
+/// ```
+pub fn list_runs(word: &[u8], out: &mut [u32]) -> Result<usize, Refusal> {
+    written(numbers::list_runs(word, out))
+}
+
 /// Writes a report, which is its head, full periods, periods and squares, and returns how many words: refusals 1, 2, 3. A slice of
 /// [`MOST_REPORT`](crate::MOST_REPORT) places or more is never too short, so that the report is not counted before it is written.
 pub fn report(word: &[u8], out: &mut [u32]) -> Result<usize, Refusal> {

@@ -4,8 +4,8 @@ use checks::calls::{Answer, Calls};
 use checks::library::Library;
 use checks::reference::{pairs, periods, squares, Pair};
 use luffbutton::{find_cover, findings, judge, list_full, list_full_scaled, list_plain};
-use luffbutton::{list_skipping, list_squares, report, Cover, Finding, Head, Period, Refusal};
-use luffbutton::{Tracker, Verdict, BOARD, CLEAR, LONGEST, TAKE_BACK};
+use luffbutton::{list_skipping, list_squares, report, runs, Cover, Finding, Head, Period};
+use luffbutton::{Refusal, Run, Tracker, Verdict, BOARD, CLEAR, LONGEST, TAKE_BACK};
 use std::error::Error;
 use std::sync::Mutex;
 
@@ -99,6 +99,61 @@ fn findings_of_a_report() {
     assert_eq!(Finding::of(0), None);
     assert_eq!(Finding::of(9 << 28), None);
     assert_eq!(findings(&[0, 9 << 28]).next(), None);
+}
+
+/// The words of two runs of abaababa. The first is the one that request C-11 gives: d = 3 and i = 1, then j = 6 and the hands 0 and 2.
+const RUNS: [[u32; 2]; 2] = [[1342226433, 1611005954], [1342226435, 1611137536]];
+
+/// What these words say.
+fn due_runs() -> [Run; 2] {
+    [(1, 6, 0, 2), (3, 8, 2, 0)].map(|(start, end, left, right)| Run {
+        period: Period(3),
+        start,
+        end,
+        left,
+        right,
+    })
+}
+
+/// A run is read from its two words. Neither is a finding alone, so that the second is not read by the fields of the other kinds.
+#[test]
+fn runs_of_two_words() {
+    assert_eq!(RUNS.map(Run::of), due_runs().map(Some));
+    let [first, second] = RUNS[0];
+    for both in [[second, first], [first, first], [second, second]] {
+        assert_eq!(Run::of(both), None);
+    }
+    assert_eq!(Finding::of(first), None);
+    assert_eq!(Finding::of(second), None);
+    assert_eq!(findings(&RUNS[0]).next(), None);
+}
+
+/// The numbers of a run's words do not run into each other where they are large.
+#[test]
+fn runs_of_large_numbers() {
+    let words = [0x5000_0000 + 120 * (1 << 14) + 240, 0x60f0_7776];
+    let due = Run {
+        period: Period(120),
+        start: 240,
+        end: 240,
+        left: 0x77,
+        right: 0x76,
+    };
+    assert_eq!(Run::of(words), Some(due));
+}
+
+/// What is not two words of one run is passed over, wherever it stands.
+#[test]
+fn runs_among_other_words() {
+    let [one, other] = RUNS;
+    let square = 2 * (1 << 28) + (1 << 14) + 1;
+    let (half, rest) = ([one[1], one[0]], [square, one[0], square, one[1]]);
+    let words = [&half[..1], &one, &rest, &other, &half[1..]].concat();
+    assert!(runs(&words).eq(due_runs()));
+    assert!(runs(&words).rev().eq(due_runs().into_iter().rev()));
+    for none in [&half[..], &rest, &one[..1], &one[1..], &[]] {
+        assert_eq!(runs(none).next(), None);
+    }
 }
 
 #[test]
