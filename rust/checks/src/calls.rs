@@ -39,7 +39,8 @@ impl Answer {
     }
 }
 
-/// The calls of document 01 with all their numbers, so that one test can be run on the library and on a second implementation.
+/// The calls of document 01 and of request C-11 with all their numbers, so that one test can be run on the library and on a second
+/// implementation.
 /// A list call writes to `out`; a tracker call but `list` changes the fields.
 pub trait Calls {
     fn judge(&self, word: &[u8], head: Head, period: Period) -> Answer;
@@ -48,6 +49,7 @@ pub trait Calls {
     fn list_full(&self, word: &[u8], out: &mut [u32]) -> Answer;
     fn list_full_scaled(&self, word: &[u8], out: &mut [u32]) -> Answer;
     fn list_squares(&self, word: &[u8], out: &mut [u32]) -> Answer;
+    fn list_runs(&self, word: &[u8], out: &mut [u32]) -> Answer;
     fn find_cover(&self, word: &[u8]) -> Answer;
     fn report(&self, word: &[u8], out: &mut [u32]) -> Answer;
     fn fresh(&self, tracker: &mut Fields);

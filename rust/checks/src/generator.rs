@@ -102,9 +102,14 @@ pub fn alternating(n: usize) -> Vec<u8> {
     (0..n).map(|i| FIRST_LETTER + (i % 2) as u8).collect()
 }
 
-/// The first n letters of abba, abba, and so on, of which there are many Abelian runs: 5,420 of 240 letters.
+/// n letters: those of the block again and again.
+pub fn repeated(block: &[u8], n: usize) -> Vec<u8> {
+    block.iter().copied().cycle().take(n).collect()
+}
+
+/// n letters, abba repeated. There are many Abelian runs in it: 5,420 in 240 letters.
 pub fn abba(n: usize) -> Vec<u8> {
-    b"abba".iter().copied().cycle().take(n).collect()
+    repeated(b"abba", n)
 }
 
 /// A word of n letters.

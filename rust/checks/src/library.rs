@@ -52,6 +52,10 @@ impl Calls for Library {
         numbers::list_squares(word, out).into()
     }
 
+    fn list_runs(&self, word: &[u8], out: &mut [u32]) -> Answer {
+        numbers::list_runs(word, out).into()
+    }
+
     fn find_cover(&self, word: &[u8]) -> Answer {
         numbers::find_cover(word).into()
     }

@@ -101,13 +101,6 @@ fn list_call(
     }
 }
 
-impl Reference {
-    /// Writes all Abelian runs: refusals 1, 2, 3.
-    pub fn list_runs(&self, word: &[u8], out: &mut [u32]) -> Answer {
-        list_call(word, out, run_words, |answer| answer)
-    }
-}
-
 impl Calls for Reference {
     fn judge(&self, word: &[u8], head: Head, period: Period) -> Answer {
         if let Some(refusal) = word_refusal(word) {
@@ -159,6 +152,10 @@ impl Calls for Reference {
 
     fn list_squares(&self, word: &[u8], out: &mut [u32]) -> Answer {
         list_call(word, out, square_words, |answer| answer)
+    }
+
+    fn list_runs(&self, word: &[u8], out: &mut [u32]) -> Answer {
+        list_call(word, out, run_words, |answer| answer)
     }
 
     fn find_cover(&self, word: &[u8]) -> Answer {

@@ -183,7 +183,9 @@ fn slices_of_every_length() {
 fn slices_for_the_longest_lists() {
     let word = [FIRST_LETTER; LONGEST];
     let _shown = shown(&word);
-    let needed = [14520, 14520, 20, 20, 14400, 28941];
+    // Of runs, by length d of a block, as many as starts up to d from which two blocks fit: 3,240 up to d = 80, and 1,600 above.
+    let runs = 2 * (3240 + 1600);
+    let needed = [14520, 14520, 20, 20, 14400, runs, 28941];
     for ((name, call), needed) in LIST_CALLS.into_iter().zip(needed) {
         for places in [0, 1, needed - 1] {
             let (answer, out) = lent(places, |out| call(&Library, &word, out));

@@ -2,8 +2,8 @@
 use crate::support::{lent, places_enough, seeded, shown};
 use checks::calls::{Answer, Calls};
 use checks::library::Library;
-use checks::reference::{pairs, periods, squares, Pair};
-use luffbutton::{find_cover, findings, judge, list_full, list_full_scaled, list_plain};
+use checks::reference::{self, pairs, periods, squares, Pair};
+use luffbutton::{find_cover, findings, judge, list_full, list_full_scaled, list_plain, list_runs};
 use luffbutton::{list_skipping, list_squares, report, runs, Cover, Finding, Head, Period};
 use luffbutton::{Refusal, Run, Tracker, Verdict, BOARD, CLEAR, LONGEST, TAKE_BACK};
 use std::error::Error;
@@ -58,6 +58,8 @@ fn lists() {
             assert_eq!(list_full(&word, &mut out), due(numbers, numbers.written));
             let numbers = Library.list_squares(&word, &mut out);
             assert_eq!(list_squares(&word, &mut out), due(numbers, numbers.written));
+            let numbers = Library.list_runs(&word, &mut out);
+            assert_eq!(list_runs(&word, &mut out), due(numbers, numbers.written));
             let numbers = Library.report(&word, &mut out);
             assert_eq!(report(&word, &mut out), due(numbers, numbers.written));
         }
@@ -154,6 +156,36 @@ fn runs_among_other_words() {
     for none in [&half[..], &rest, &one[..1], &one[1..], &[]] {
         assert_eq!(runs(none).next(), None);
     }
+}
+
+/// The runs read from a list are those of the second implementation.
+#[test]
+fn runs_of_a_list() {
+    let mut generator = seeded(82);
+    let due = |run: reference::Run| Run {
+        period: Period(run.d),
+        start: run.i,
+        end: run.j,
+        left: run.left,
+        right: run.right,
+    };
+    for n in (1..=40).chain([LONGEST]) {
+        let (word, _) = generator.cyclic(n, 3);
+        let _shown = shown(&word);
+        let mut out = vec![0; places_enough(n)];
+        let written = list_runs(&word, &mut out).expect("places enough");
+        let found: Vec<Run> = runs(&out[..written]).collect();
+        let due: Vec<Run> = reference::runs(&word).into_iter().map(due).collect();
+        assert_eq!(found, due);
+    }
+    assert_eq!(
+        list_runs(b"aBc", &mut []),
+        Err(Refusal::NotALetter { position: 2 })
+    );
+    assert_eq!(
+        list_runs(&[b'a'; LONGEST + 1], &mut []),
+        Err(Refusal::TooLong)
+    );
 }
 
 #[test]

@@ -1,6 +1,6 @@
-//! Tests of the proved library against document 01: outside vectors, its marked words, and a second implementation on random words,
-//! damaged inputs and lists of tracker calls. The vectors are run on the second implementation as well. Seeds are fixed; a test that
-//! fails prints its word or its calls.
+//! Tests of the proved library against document 01 and request C-11: outside vectors, marked words, and a second implementation on
+//! random words, damaged inputs and lists of tracker calls. The vectors are run on the second implementation as well. Seeds are fixed; a
+//! test that fails prints its word or its calls.
 #![forbid(unsafe_code)]
 mod damaged;
 mod header;

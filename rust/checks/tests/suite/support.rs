@@ -38,7 +38,7 @@ pub fn shown(word: &[u8]) -> Shown {
 pub type ListCall = fn(&dyn Calls, &[u8], &mut [u32]) -> Answer;
 
 /// Every list call on a word, by name.
-pub const LIST_CALLS: [(&str, ListCall); 6] = [
+pub const LIST_CALLS: [(&str, ListCall); 7] = [
     ("list_plain", |calls, word, out| calls.list_plain(word, out)),
     ("list_skipping", |calls, word, out| {
         calls.list_skipping(word, out)
@@ -50,6 +50,7 @@ pub const LIST_CALLS: [(&str, ListCall); 6] = [
     ("list_squares", |calls, word, out| {
         calls.list_squares(word, out)
     }),
+    ("list_runs", |calls, word, out| calls.list_runs(word, out)),
     ("report", |calls, word, out| calls.report(word, out)),
 ];
 
@@ -96,6 +97,27 @@ pub fn filled(words: &[u32], places: usize) -> Vec<u32> {
     let mut out = marks(places);
     out[..words.len()].copy_from_slice(words);
     out
+}
+
+/// Asserts that a list call writes the words, with the answer due: with as many places as they need and with more. With one place too few
+/// it is refused, and the slice is as it came.
+pub fn assert_lists(
+    call: impl Fn(&mut [u32]) -> Answer,
+    words: &[u32],
+    due: Answer,
+    context: &str,
+) {
+    for places in [words.len(), words.len() + 5] {
+        let (answer, out) = lent(places, &call);
+        assert_eq!(answer, due, "{context}");
+        assert_eq!(out, filled(words, places), "{context}");
+    }
+    if let Some(short) = words.len().checked_sub(1) {
+        let (answer, out) = lent(short, &call);
+        let refusal = Answer::refused(3, words.len());
+        assert_eq!(answer, refusal, "{context}, a place short");
+        assert_eq!(out, marks(short), "{context}, a place short");
+    }
 }
 
 /// The entries that are not 0, of bytes or a board, by place.

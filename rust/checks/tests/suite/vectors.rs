@@ -1,8 +1,7 @@
-//! The outside vectors, each kind of record on the library and on the second implementation.
+//! The outside vectors of document 01, each kind of record on the library and on the second implementation.
 use crate::records::{read, Answered, Call, CallsRecord, WordRecord};
-use crate::support::{
-    assert_same_fields, filled, lent, marks, places_enough, shown, Shown, LIST_CALLS,
-};
+use crate::support::{assert_lists, assert_same_fields, filled, lent, marks, places_enough};
+use crate::support::{shown, Shown, LIST_CALLS};
 use checks::calls::{Answer, Calls};
 use checks::library::Library;
 use checks::reference::{ended_length, pairs, Machine, Pair, Prefixes, Reference};
@@ -37,7 +36,8 @@ fn due_list(name: &str, record: &WordRecord) -> (Vec<u32>, Answer) {
             "list_plain" | "list_skipping" => periods(),
             "list_full" | "list_full_scaled" => record.full.iter().map(full).collect(),
             "list_squares" => record.squares.iter().map(square).collect(),
-            _ => record.report.clone(),
+            "report" => record.report.clone(),
+            other => panic!("the record has no {other}"),
         },
         Answer::default(),
     );
@@ -51,24 +51,14 @@ fn due_list(name: &str, record: &WordRecord) -> (Vec<u32>, Answer) {
     (words, answer)
 }
 
-/// Each list call with as many places as it needs, with more, and with one too few.
+/// Each list call but that of runs, which have vectors of their own.
 fn lists_agree(calls: &dyn Calls, record: &WordRecord) {
-    for (name, call) in LIST_CALLS {
+    let recorded = LIST_CALLS
+        .into_iter()
+        .filter(|&(name, _)| name != "list_runs");
+    for (name, call) in recorded {
         let (words, due) = due_list(name, record);
-        for places in [words.len(), words.len() + 5] {
-            let (answer, out) = lent(places, |out| call(calls, &record.word, out));
-            assert_eq!(answer, due, "{name}");
-            assert_eq!(out, filled(&words, places), "{name}");
-        }
-        if let Some(short) = words.len().checked_sub(1) {
-            let (answer, out) = lent(short, |out| call(calls, &record.word, out));
-            assert_eq!(
-                answer,
-                Answer::refused(3, words.len()),
-                "{name}, a place short"
-            );
-            assert_eq!(out, marks(short), "{name}, a place short");
-        }
+        assert_lists(|out| call(calls, &record.word, out), &words, due, name);
     }
 }
 
