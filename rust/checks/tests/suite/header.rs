@@ -3,11 +3,14 @@ use crate::support::lent;
 use checks::calls::{Answer, Calls};
 use checks::library::Library;
 use luffbutton::numbers::{Cover, Listed, Outcome, Replayed, Scaled, Verdict, Wrote};
-use luffbutton::{Fields, Refusal, BOARD, CLEAR, FIRST_LETTER, LETTERS, LONGEST, TAKE_BACK};
-use luffbutton::{MOST_FULL, MOST_PERIODS, MOST_REPORT, MOST_SQUARES};
+use luffbutton::{runs, Fields, Period, Refusal, Run, BOARD, BOUND_RUNS, CLEAR, FIRST_LETTER};
+use luffbutton::{LETTERS, LONGEST, MOST_FULL, MOST_PERIODS, MOST_REPORT, MOST_SQUARES, TAKE_BACK};
 use std::mem::{offset_of, size_of};
 
 const HEADER: &str = include_str!("../../../../include/luffbutton.h");
+
+/// Where the Rust crate declares the functions.
+const NUMBERS: &str = include_str!("../../../luffbutton/src/numbers.rs");
 
 /// The number that stands behind the name, in a `#define` or in an enum.
 fn number(name: &str) -> usize {
@@ -23,6 +26,43 @@ fn number(name: &str) -> usize {
     let found = found.unwrap_or_else(|| panic!("the header has no {name}"));
     let digits = found.trim_end_matches([',', 'u']);
     digits.parse().expect("a number")
+}
+
+/// A macro of the header that reads a number from an output word: it shifts the word down, keeps some of its bits, or both.
+struct Reader {
+    shift: u32,
+    kept: u32,
+}
+
+impl Reader {
+    fn of(name: &str) -> Reader {
+        let opening = format!("#define {name}(word) ");
+        let found = HEADER.lines().find_map(|line| line.strip_prefix(&opening));
+        let body = found.unwrap_or_else(|| panic!("the header has no {name}"));
+        let steps = body.replace("(uint32_t)(word)", "").replace(['(', ')'], "");
+        let steps: Vec<&str> = steps.split_whitespace().collect();
+        let (shift, kept) = match steps[..] {
+            [">>", shift] => (shift, "0xffffffffu"),
+            ["&", kept] => ("0", kept),
+            [">>", shift, "&", kept] => (shift, kept),
+            _ => panic!("{name} is {body}"),
+        };
+        Reader {
+            shift: shift.parse().expect("a number"),
+            kept: hexadecimal(kept),
+        }
+    }
+
+    fn read(&self, word: u32) -> usize {
+        (word >> self.shift & self.kept) as usize
+    }
+}
+
+/// A number written as 0x3fffu is.
+fn hexadecimal(text: &str) -> u32 {
+    let digits = text.strip_prefix("0x").and_then(|x| x.strip_suffix('u'));
+    let number = digits.and_then(|digits| u32::from_str_radix(digits, 16).ok());
+    number.unwrap_or_else(|| panic!("{text} is no such number"))
 }
 
 /// The members of a struct as the header declares them, in their order.
@@ -46,6 +86,33 @@ macro_rules! assert_numbers {
         assert!(in_order.eq(offsets), "{}: {offsets:?}", $c);
         assert_eq!(size_of::<$rust>(), due.len() * size_of::<usize>(), $c);
     };
+}
+
+/// The functions that the header declares and does not define inline.
+fn declared() -> Vec<&'static str> {
+    let answers = |line: &&str| line.starts_with("struct luff_") || line.starts_with("void luff_");
+    let name = |line: &'static str| line.split_once('(')?.0.rsplit(' ').next();
+    let mut names: Vec<&str> = HEADER.lines().filter(answers).filter_map(name).collect();
+    names.sort_unstable();
+    names
+}
+
+#[test]
+fn functions() {
+    let name = |line: &'static str| line.trim().strip_prefix("fn luff_")?.split('(').next();
+    let names = NUMBERS.lines().filter_map(name);
+    let mut in_rust: Vec<String> = names.map(|name| format!("luff_{name}")).collect();
+    in_rust.sort_unstable();
+    assert_eq!(declared(), in_rust);
+    assert!(HEADER.contains(" It has fifteen functions "));
+    assert_eq!(in_rust.len(), 15);
+}
+
+/// The crates are versions 0.V of the header's version V.
+#[test]
+fn versions() {
+    let version = number("LUFF_VERSION").to_string();
+    assert_eq!(version, env!("CARGO_PKG_VERSION_MINOR"));
 }
 
 #[test]
@@ -82,11 +149,32 @@ fn sizes() {
     assert_eq!(number("LUFF_LETTERS"), LETTERS);
     assert_eq!(number("LUFF_LONGEST"), LONGEST);
     assert_eq!(number("LUFF_BOARD"), BOARD);
+    assert_eq!(number("LUFF_BOUND_RUNS"), BOUND_RUNS);
     assert_eq!(number("LUFF_CALL_TAKE_BACK"), usize::from(TAKE_BACK));
     assert_eq!(number("LUFF_CALL_CLEAR"), usize::from(CLEAR));
 }
 
-/// A word of one letter has every list at its longest.
+/// The limits on stack that the Rust crate's page gives: 48 KB for any call, and 12 KB for one on a tracker.
+#[test]
+fn stacks() {
+    assert_eq!(number("LUFF_STACK_REPORT"), 48 * 1024);
+    assert_eq!(number("LUFF_STACK_TRACKER"), 12 * 1024);
+    let calls = [
+        "LUFF_STACK_JUDGE",
+        "LUFF_STACK_LIST_PLAIN",
+        "LUFF_STACK_LIST_SKIPPING",
+        "LUFF_STACK_LIST_FULL",
+        "LUFF_STACK_LIST_FULL_SCALED",
+        "LUFF_STACK_LIST_SQUARES",
+        "LUFF_STACK_LIST_RUNS",
+        "LUFF_STACK_FIND_COVER",
+    ];
+    for name in calls {
+        assert!(number(name) <= 48 * 1024, "{name}");
+    }
+}
+
+/// A word of one letter has every list but that of runs at its longest.
 #[test]
 fn longest_lists() {
     let word = [FIRST_LETTER; LONGEST];
@@ -138,4 +226,28 @@ fn refusals_and_kinds() {
         kinds,
         [head, full, full, period, period, period, period, square, square]
     );
+}
+
+/// The macros read from a run's two words what the Rust crate reads from them.
+#[test]
+fn runs_by_macros() {
+    let word = [FIRST_LETTER; LONGEST];
+    let (answer, out) = lent(BOUND_RUNS, |out| Library.list_runs(&word, out));
+    let words = &out[..answer.written];
+    let kinds = ["LUFF_KIND_RUN", "LUFF_KIND_HANDS"].map(number);
+    let [kind, upper, lower] =
+        ["LUFF_WORD_KIND", "LUFF_WORD_UPPER", "LUFF_WORD_LOWER"].map(Reader::of);
+    let [end, left, right] = ["LUFF_RUN_END", "LUFF_RUN_LEFT", "LUFF_RUN_RIGHT"].map(Reader::of);
+    let by_macros = |both: &[u32]| {
+        assert_eq!([kind.read(both[0]), kind.read(both[1])], kinds);
+        Run {
+            period: Period(upper.read(both[0])),
+            start: lower.read(both[0]),
+            end: end.read(both[1]),
+            left: left.read(both[1]),
+            right: right.read(both[1]),
+        }
+    };
+    assert_eq!(words.len(), 2 * 4840);
+    assert!(runs(words).eq(words.chunks(2).map(by_macros)));
 }
