@@ -1,10 +1,10 @@
-//! What is timed: the library's calls and their peers, on six kinds of words.
+//! What is timed: the library's calls and their peers, on six kinds of words, runs on seven.
 use crate::measure::{best, lower, on_copies, repeated, Timed, Turn, SIZES};
 use checks::calls::{Answer, Calls};
-use checks::generator::{Word, TIMED_WORDS};
+use checks::generator::{abba, Word, TIMED_WORDS};
 use checks::library::Library;
 use checks::peers::{add_in_place, list_brute_force, list_counting_anew, list_full_002};
-use checks::peers::{list_select_based, list_sliding_windows, OnLine};
+use checks::peers::{list_runs_003, list_select_based, list_sliding_windows, OnLine};
 use luffbutton::{findings, Fields, Finding, LONGEST, MOST_REPORT};
 use std::hint::black_box;
 
@@ -18,7 +18,7 @@ type WordCaller = fn(&[u8], &mut [u32]) -> Answer;
 pub type WordCall = (&'static str, &'static [(&'static str, WordCaller)]);
 
 /// The calls on words, but for the judge's.
-pub const WORD_CALLS: [WordCall; 7] = [
+pub const WORD_CALLS: [WordCall; 8] = [
     (
         "list_plain",
         &[
@@ -53,6 +53,13 @@ pub const WORD_CALLS: [WordCall; 7] = [
         ],
     ),
     (
+        "list_runs",
+        &[
+            ("library", |word, out| Library.list_runs(word, out)),
+            ("003", list_runs_003),
+        ],
+    ),
+    (
         "find_cover",
         &[("library", |word, _| Library.find_cover(word))],
     ),
@@ -62,13 +69,20 @@ pub const WORD_CALLS: [WordCall; 7] = [
     ),
 ];
 
-/// Times a function for each word and each size.
-fn over_words(time: impl Fn(&[u8]) -> Vec<f64>) -> Vec<(&'static str, Vec<Vec<f64>>)> {
+/// The words on which a call is timed: the six, and for runs also one that has many.
+fn words_for(call: &str) -> Vec<(&'static str, Word)> {
+    let mut words = TIMED_WORDS.to_vec();
+    if call == "list_runs" {
+        words.push(("abba repeated", abba));
+    }
+    words
+}
+
+/// Times a function for each of a call's words and each size.
+fn over_words(call: &str, time: impl Fn(&[u8]) -> Vec<f64>) -> Vec<(&'static str, Vec<Vec<f64>>)> {
     let sizes = |word: Word| SIZES.iter().map(|&n| time(&word(n))).collect();
-    TIMED_WORDS
-        .iter()
-        .map(|&(name, word)| (name, sizes(word)))
-        .collect()
+    let words = words_for(call).into_iter();
+    words.map(|(name, word)| (name, sizes(word))).collect()
 }
 
 /// A slice for any list, with places enough that a report is not counted before it is written.
@@ -89,7 +103,7 @@ pub fn time_word_call(&(call, contenders): &WordCall) -> Timed {
     Timed {
         call,
         contenders: contenders.iter().map(|&(name, _)| name).collect(),
-        words: over_words(time),
+        words: over_words(call, time),
     }
 }
 
@@ -126,7 +140,7 @@ pub fn time_judge() -> Timed {
     Timed {
         call: "judge",
         contenders: vec!["library"],
-        words: over_words(time),
+        words: over_words("judge", time),
     }
 }
 
@@ -167,7 +181,7 @@ pub fn time_adds() -> Timed {
     Timed {
         call: "add",
         contenders: vec!["library", "in place", "004, on-line"],
-        words: over_words(time),
+        words: over_words("add", time),
     }
 }
 
@@ -250,4 +264,13 @@ pub fn trials() -> Vec<(&'static str, [usize; 3])> {
         (name, [plain.trials, skipping.trials, plain.written])
     };
     TIMED_WORDS.iter().map(tried).collect()
+}
+
+/// How many Abelian runs each word of 240 letters has.
+pub fn numbers_of_runs() -> Vec<(&'static str, usize)> {
+    let runs = |(name, word): (&'static str, Word)| {
+        let listed = Library.list_runs(&word(LONGEST), &mut places());
+        (name, listed.written / 2)
+    };
+    words_for("list_runs").into_iter().map(runs).collect()
 }

@@ -1,5 +1,5 @@
 //! The tables, as markdown.
-use crate::contenders::{trials, Trackers, TRACKER_CALLS};
+use crate::contenders::{numbers_of_runs, trials, Trackers, TRACKER_CALLS};
 use crate::measure::{Timed, SIZES};
 use std::fmt::Write;
 
@@ -12,6 +12,7 @@ pub fn markdown(all: &[Timed], full: &Trackers) -> String {
     }
     tracker_table(&mut text, full);
     trials_table(&mut text);
+    runs_table(&mut text);
     text
 }
 
@@ -39,7 +40,7 @@ fn growth(from: f64, to: f64) -> String {
 
 /// For each call and each peer: the library's time at each size, how many times the peer's it is, and how it grows.
 fn summary(text: &mut String, all: &[Timed]) {
-    text.push_str("Geometric means over the six words. Time: microseconds of the library's call. Ratio: its time divided by the peer's. `judge` is asked about the word's first Abelian period.\n\n");
+    text.push_str("Geometric means over the six words, of `list_runs` over these and `abba` repeated. Time: microseconds of the library's call. Ratio: its time divided by the peer's. `judge` is asked about the word's first Abelian period.\n\n");
     let mut cells = vec!["call".to_string(), "peer".to_string()];
     cells.extend(SIZES.map(|n| format!("time, n = {n}")));
     cells.extend(SIZES.map(|n| format!("ratio, n = {n}")));
@@ -114,5 +115,14 @@ fn trials_table(text: &mut String) {
         let mut cells = vec![word.to_string()];
         cells.extend(numbers.map(|number| number.to_string()));
         row(text, &cells);
+    }
+}
+
+/// How many runs the words have.
+fn runs_table(text: &mut String) {
+    text.push_str("\nAbelian runs of a word of 240 letters.\n\n");
+    header(text, &["word", "runs"].map(str::to_string));
+    for (word, runs) in numbers_of_runs() {
+        row(text, &[word.to_string(), runs.to_string()]);
     }
 }
