@@ -1,7 +1,7 @@
 -- Definition 1 of documents 002 and 004, word for word: for words of letters the test `isPeriod` passes exactly where the record
 -- `AbelianPeriod` holds. So a pair is in the list of periods exactly where the record holds, and the list rises by p and then h.
 use mathlib.Core.Path.{_≡_, refl, sym, ap, subst, _∙_}
-use mathlib.Core.Logic.{_⊎_, ⊎-elim, _↔_}
+use mathlib.Core.Logic.{⊎-elim, _↔_}
 use mathlib.Core.Bool.{Bool, _&&_}
 use mathlib.Core.List.{List, [], _∷_, _++_, map, append-assoc, List·Memᴰ, List·Memᴰ·head, List·Memᴰ·tail, List·Memᴰ·cases-cons, List·Memᴰ·not-nil, Memᴰ·of-map}
 use Prim.Native.Nat.{ℕ, zero, suc, _+_, _-_, _*_, _/_, _≤_, _<_}
@@ -13,11 +13,11 @@ use lib.Seq.{take-at, drop-at, drop-drop, length-take-le, drop-append-add}
 use lib.Dec.{T}
 use Rattle.abelian.specs.Lists.{upFrom, same, all, join}
 use Rattle.abelian.specs.Words.{ofLetters, vector, contained}
-use Rattle.abelian.specs.Periods.{Pair, pair, inRange, pairs, headOf, block, wholeBlocks, tailOf, isPeriod, periods, AbelianPeriod, Rising}
+use Rattle.abelian.specs.Periods.{Pair, inRange, pairs, headOf, block, wholeBlocks, tailOf, isPeriod, periods, AbelianPeriod, Before, Rising}
 use Rattle.abelian.proofs.Tests.{both, left, right}
-use Rattle.abelian.proofs.Lists.{same-equal, equal-same, mem-keep, keep-mem, all-mem, mem-all, mem-upFrom, upFrom-mem}
+use Rattle.abelian.proofs.Lists.{same-equal, equal-same, mem-keep, keep-mem, all-mem, mem-all, mem-upFrom, upFrom-mem, ordered-keep}
 use Rattle.abelian.proofs.Counts.{letters-left, letters-right, vector-length, contained-shorter}
-use Rattle.abelian.proofs.Pairs.{InRange, in-range, range-in, in-range-pairs, pairs-rising, rising-keep}
+use Rattle.abelian.proofs.Pairs.{InRange, in-range, range-in, in-range-pairs, pairs-rising}
 
 -- ---- the test's four conditions
 
@@ -261,4 +261,4 @@ periods-definition w x t = (
 -- the list of periods rises strictly by p and then h
 pub periods-rising : (w : List ℕ) → Rising (periods w)
 unfolding periods
-periods-rising w = rising-keep (isPeriod w) (pairs (length w)) (pairs-rising (length w))
+periods-rising w = ordered-keep Before (isPeriod w) (pairs (length w)) (pairs-rising (length w))

@@ -9,7 +9,7 @@ use native.Mathlib.Omega.{arith}
 use lib.ListN.{length, length-append}
 use lib.Dec.{T, eqb, ltb, eqb→eq, eqb-refl}
 use borrow.Author.Tests.{eqb-true, eqb-false, ltb-true, ltb-false, ne-eqb}
-use Rattle.abelian.specs.Lists.{pick, upFrom, largest, same, put, keep, all, each, firstOf}
+use Rattle.abelian.specs.Lists.{pick, upFrom, largest, same, put, keep, all, each, firstOf, Ordered}
 use Rattle.abelian.proofs.Tests.{is-false, both, left, right, decided, passes, fails}
 
 -- ---- equal lists of numbers
@@ -229,6 +229,11 @@ pub le-largest : (xs : List ℕ) {x : ℕ} → List·Memᴰ x xs → x ≤ large
 le-largest [] m = absurd (List·Memᴰ·not-nil m)
 le-largest (y ∷ xs) {x} m = ⊎-elim (λ (q : x ≡ y). omega arith) (λ i. omega (arith, le-largest xs i)) (List·Memᴰ·cases-cons m)
 
+-- what no number exceeds the largest does not exceed
+pub largest-le : (xs : List ℕ) (b : ℕ) → ((a : ℕ) → List·Memᴰ a xs → a ≤ b) → largest xs ≤ b
+largest-le [] b h = omega arith
+largest-le (x ∷ xs) b h = omega (arith, h x (List·Memᴰ·head refl), largest-le xs b (λ a m. h a (List·Memᴰ·tail m)))
+
 -- the largest number is one of the list, or 0
 pub largest-found : (xs : List ℕ) → (largest xs ≡ 0) ⊎ List·Memᴰ (largest xs) xs
 largest-found [] = inl refl
@@ -243,13 +248,8 @@ largest-found (x ∷ xs) =
 -- ---- order
 
 module _ {A : Type 0} (R : A → A → Type 0) where
-  -- each element of the list stands in the relation R to all behind it
-  abbrev pub Ordered : List A → Type 0
-  Ordered [] = Unit {0}
-  Ordered (x ∷ xs) = ((y : A) → List·Memᴰ y xs → R x y) × Ordered xs
-
   -- ordered lists, one behind the other, are ordered where each element of the first stands in the relation to each of the second
-  pub ordered-append : (xs ys : List A) → Ordered xs → Ordered ys → ((x y : A) → List·Memᴰ x xs → List·Memᴰ y ys → R x y) → Ordered (xs ++ ys)
+  pub ordered-append : (xs ys : List A) → Ordered R xs → Ordered R ys → ((x y : A) → List·Memᴰ x xs → List·Memᴰ y ys → R x y) → Ordered R (xs ++ ys)
   ordered-append [] ys r s h = s
   ordered-append (x ∷ xs) ys r s h = (
     λ y m. ⊎-elim (r .0 y) (h x y (List·Memᴰ·head refl)) (List·Memᴰ·append-cases xs m),
@@ -257,11 +257,11 @@ module _ {A : Type 0} (R : A → A → Type 0) where
   )
 
   -- what an ordered list keeps is ordered
-  pub ordered-keep : (f : A → Bool) (xs : List A) → Ordered xs → Ordered (keep f xs)
+  pub ordered-keep : (f : A → Bool) (xs : List A) → Ordered R xs → Ordered R (keep f xs)
   ordered-keep f [] r = tt
   ordered-keep f (x ∷ xs) r = go (f x) (ordered-keep f xs (r .1))
     where
-      go : (b : Bool) → Ordered (keep f xs) → Ordered (put b x (keep f xs))
+      go : (b : Bool) → Ordered R (keep f xs) → Ordered R (put b x (keep f xs))
       go true s = (λ y m. r .0 y (mem-keep f xs m .0), s)
       go false s = s
 

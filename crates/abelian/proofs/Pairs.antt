@@ -1,15 +1,15 @@
 -- Laws of pairs: the list of pairs has exactly the pairs in range, and rises by p and then h.
 use mathlib.Core.Path.{_≡_, refl, sym, ap, subst, _∙_}
-use mathlib.Core.Logic.{_⊎_, inl, inr, ⊎-elim}
-use mathlib.Core.Bool.{Bool, true, false, _&&_}
-use mathlib.Core.List.{List, [], _∷_, _++_, map, List·Memᴰ, List·Memᴰ·head, List·Memᴰ·tail, List·Memᴰ·cases-cons, List·Memᴰ·not-nil, List·Memᴰ·append-cases, Memᴰ·map, Memᴰ·of-map}
-use Prim.Native.Nat.{ℕ, zero, suc, _+_, _-_, _≤_, _<_, min}
+use mathlib.Core.Logic.{inl, inr, ⊎-elim}
+use mathlib.Core.Bool.{Bool, _&&_}
+use mathlib.Core.List.{List, [], _∷_, List·Memᴰ, List·Memᴰ·head, List·Memᴰ·tail, List·Memᴰ·cases-cons, List·Memᴰ·not-nil, Memᴰ·map, Memᴰ·of-map}
+use Prim.Native.Nat.{ℕ, suc, _+_, _-_, _≤_, _<_, min}
 use native.Mathlib.Omega.{arith}
 use lib.Dec.{T, leb, ltb, leb→le, le→leb, ltb→lt, lt→ltb}
-use Rattle.abelian.specs.Lists.{upFrom, put, keep, each}
+use Rattle.abelian.specs.Lists.{upFrom}
 use Rattle.abelian.specs.Periods.{Pair, pair, inRange, heads, row, pairs, Before, Rising}
 use Rattle.abelian.proofs.Tests.{both, left, right}
-use Rattle.abelian.proofs.Lists.{mem-keep, mem-upFrom, upFrom-mem, mem-each, each-mem}
+use Rattle.abelian.proofs.Lists.{mem-upFrom, upFrom-mem, mem-each, each-mem, ordered-upFrom, ordered-map, ordered-each}
 
 -- ---- the range
 
@@ -68,50 +68,19 @@ in-range-pairs n x t =
 
 -- ---- order
 
-pub rising-append : (xs ys : List Pair) → Rising xs → Rising ys → ((x y : Pair) → List·Memᴰ x xs → List·Memᴰ y ys → Before x y) → Rising (xs ++ ys)
-rising-append [] ys r s h = s
-rising-append (x ∷ xs) ys r s h = (
-  λ y m. ⊎-elim (r .0 y) (h x y (List·Memᴰ·head refl)) (List·Memᴰ·append-cases xs m),
-  rising-append xs ys (r .1) s (λ a b m. h a b (List·Memᴰ·tail m)),
-)
-
--- what a rising list keeps rises
-pub rising-keep : (f : Pair → Bool) (xs : List Pair) → Rising xs → Rising (keep f xs)
-rising-keep f [] r = tt
-rising-keep f (x ∷ xs) r = go (f x) (rising-keep f xs (r .1))
-  where
-    go : (b : Bool) → Rising (keep f xs) → Rising (put b x (keep f xs))
-    go true s = (λ y m. r .0 y (mem-keep f xs m .0), s)
-    go false s = s
-
-rising-heads : (p a m : ℕ) → Rising (map (λ (h : ℕ). pair h p) (upFrom a m))
-rising-heads p a zero = tt
-rising-heads p a (suc m) = (
-  λ y e.
-      let r : (h : ℕ) × List·Memᴰ h (upFrom (suc a) m) × (pair h p ≡ y) = Memᴰ·of-map (λ (h : ℕ). pair h p) (upFrom (suc a) m) e in
-      inr (
-        ap (λ (z : Pair). z .period) (r .2),
-        subst (λ (z : Pair). a < z .head) (r .2) (mem-upFrom (suc a) m (r .1) .0),
-      ),
-  rising-heads p (suc a) m,
-)
-
-rising-rows : (n a m : ℕ) → 1 ≤ a → Rising (each (upFrom a m) (row n))
+-- the pairs of a row have its period
+row-period : (n p : ℕ) {x : Pair} → List·Memᴰ x (row n p) → x .period ≡ p
 unfolding row
-rising-rows n a zero l = tt
-rising-rows n a (suc m) l =
-    rising-append (row n a) (each (upFrom (suc a) m) (row n)) (rising-heads a 0 (heads n a)) (rising-rows n (suc a) m (omega arith))
-    (λ x y e f.
-    let r : (p : ℕ) × List·Memᴰ p (upFrom (suc a) m) × List·Memᴰ y (row n p) = mem-each (row n) (upFrom (suc a) m) f in
-    let b : (suc a ≤ r .0) × (r .0 < suc a + m) = mem-upFrom (suc a) m (r .1) in
-    let px : x .period ≡ a = mem-row n a l e .1 in
-    let py : y .period ≡ r .0 = mem-row n (r .0) (omega arith) (r .2) .1 in
-    inl (omega arith))
+row-period n p m = sym (ap (λ (z : Pair). z .period) (Memᴰ·of-map (λ (h : ℕ). pair h p) (upFrom 0 (heads n p)) m .2))
 
 -- the list of pairs rises by p and then h
 pub pairs-rising : (n : ℕ) → Rising (pairs n)
-unfolding pairs
-pairs-rising n = rising-rows n 1 n (omega arith)
+unfolding pairs row
+pairs-rising n =
+    ordered-each _<_ Before (row n)
+    (λ p. ordered-map _<_ Before (λ (h : ℕ). pair h p) (λ h k l. inr (refl, l)) (upFrom 0 (heads n p)) (ordered-upFrom 0 (heads n p)))
+    (λ p q l x y m k. inl (omega (arith, row-period n p m, row-period n q k)))
+    (upFrom 1 n) (ordered-upFrom 1 n)
 
 -- no pair stands before one that stands before it
 before-asym : (x y : Pair) → Before x y → Before y x → ⊥

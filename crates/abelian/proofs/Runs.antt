@@ -3,19 +3,19 @@
 use mathlib.Core.Path.{_≡_, refl, sym, ap, subst, _∙_}
 use mathlib.Core.Logic.{_⊎_, inl, inr, ⊎-elim, _≢_, _↔_}
 use mathlib.Core.Bool.{Bool, not}
-use mathlib.Core.List.{List, [], _∷_, map, List·Memᴰ, Memᴰ·map, Memᴰ·of-map}
+use mathlib.Core.List.{List, [], map, List·Memᴰ, Memᴰ·map, Memᴰ·of-map}
 use Prim.Native.Nat.{ℕ, zero, suc, _+_, _-_, _*_, _/_, _%_, _^_, _≤_, _<_}
 use native.Mathlib.Nat.{mul-le-mul-left, mul-le-mul-right}
 use native.Mathlib.Omega.{arith}
 use lib.ListN.{length, drop, length-take, length-drop}
 use lib.Dec.{T, leb, ltb, leb→le, le→leb, ltb→lt, lt→ltb, T-not, not-T}
-use Rattle.abelian.specs.Lists.{upFrom, same, keep, all}
+use Rattle.abelian.specs.Lists.{upFrom, same, keep, all, Ordered}
 use Rattle.abelian.specs.Words.{longest, ofLetters, count, vector, contained, part}
 use Rattle.abelian.specs.Output.{outputWord, runWord, handsWord}
 use Rattle.abelian.specs.Squares.{isSquare, squareStarts}
-use Rattle.abelian.specs.Runs.{Run, most, goesBack, runStarts, repeats, runEnd, leftFits, rightFits, leftHand, rightHand, runAt, runs, wordsOfRun, runWords, readRun, Largest, AbelianRun, RunBefore, RunsRise}
+use Rattle.abelian.specs.Runs.{Run, most, goesBack, runStarts, repeats, runEnd, leftFits, rightFits, leftHand, rightHand, runAt, runs, wordsOfRun, runWords, readRun, Largest, AbelianRun, RunBefore}
 use Rattle.abelian.proofs.Tests.{both, left, right}
-use Rattle.abelian.proofs.Lists.{same-equal, equal-same, mem-keep, keep-mem, all-mem, mem-all, mem-upFrom, upFrom-mem, mem-each, each-mem, below-or-not, le-largest, largest-found, length-each, Ordered, ordered-keep, ordered-upFrom, ordered-map, ordered-each}
+use Rattle.abelian.proofs.Lists.{same-equal, equal-same, mem-keep, keep-mem, all-mem, mem-all, mem-upFrom, upFrom-mem, mem-each, each-mem, below-or-not, le-largest, largest-found, length-each, ordered-keep, ordered-upFrom, ordered-map, ordered-each}
 use Rattle.abelian.proofs.Counts.{counts-noneAbove, letters-part, shorter-contained}
 
 -- ---- the largest number that passes a test
@@ -304,16 +304,11 @@ module _ (w : List ℕ) where
       (ordered-keep _<_ (isSquare w d) (upFrom 1 (suc (length w) - 2 * d)) (ordered-upFrom 1 (suc (length w) - 2 * d))))
 
   -- the list rises by d and then i: each run is in it once
-  pub runs-rise : RunsRise (runs w)
+  pub runs-rise : Ordered RunBefore (runs w)
   unfolding runs
   runs-rise =
-      rise (runs w)
-      (ordered-each _<_ RunBefore runsOf runsOf-rise
-      (λ a b l x y m n. inl (omega (arith, mem-runsOf a m, mem-runsOf b n))) (upFrom 1 (length w)) (ordered-upFrom 1 (length w)))
-    where
-      rise : (rs : List Run) → Ordered RunBefore rs → RunsRise rs
-      rise [] o = tt
-      rise (r ∷ rs) o = (o .0, rise rs (o .1))
+      ordered-each _<_ RunBefore runsOf runsOf-rise
+      (λ a b l x y m n. inl (omega (arith, mem-runsOf a m, mem-runsOf b n))) (upFrom 1 (length w)) (ordered-upFrom 1 (length w))
 
 -- ---- words
 

@@ -1,7 +1,7 @@
 -- The few functions on lists and tests that the definitions are made of.
 use Prim.Native.Nat.{ℕ, zero, suc, _+_, max}
 use mathlib.Core.Bool.{Bool, true, false, _&&_}
-use mathlib.Core.List.{List, [], _∷_, _++_}
+use mathlib.Core.List.{List, [], _∷_, _++_, List·Memᴰ}
 use lib.Dec.{eqb}
 
 -- the first of two where the test passes, and the second where it fails
@@ -67,3 +67,9 @@ module _ {A B : Type 0} where
   abbrev pub each : List A → (A → List B) → List B
   each [] f = []
   each (x ∷ xs) f = f x ++ each xs f
+
+module _ {A : Type 0} (R : A → A → Type 0) where
+  -- each element of the list stands in the relation R to all behind it
+  abbrev pub Ordered : List A → Type 0
+  Ordered [] = Unit {0}
+  Ordered (x ∷ xs) = ((y : A) → List·Memᴰ y xs → R x y) × Ordered xs

@@ -3,10 +3,10 @@ use Prim.Native.Nat.{ℕ, suc, _+_, _-_, _*_, _/_, min, _<_}
 use mathlib.Core.Path.{_≡_}
 use mathlib.Core.Logic.{_⊎_}
 use mathlib.Core.Bool.{Bool, _&&_}
-use mathlib.Core.List.{List, [], _∷_, _++_, map, List·Memᴰ}
+use mathlib.Core.List.{List, _++_, map, List·Memᴰ}
 use lib.ListN.{length, take, drop}
 use lib.Dec.{T, leb, ltb}
-use Rattle.abelian.specs.Lists.{upFrom, same, keep, all, join, each}
+use Rattle.abelian.specs.Lists.{upFrom, same, keep, all, join, each, Ordered}
 use Rattle.abelian.specs.Words.{vector, contained, part}
 
 -- A pair (h, p): the head's length and the period.
@@ -81,5 +81,4 @@ Before x y = (x .period < y .period) ⊎ ((x .period ≡ y .period) × (x .head 
 
 -- Each pair of the list stands before all behind it: the list rises strictly by p and then h.
 abbrev pub Rising : List Pair → Type 0
-Rising [] = Unit {0}
-Rising (x ∷ xs) = ((y : Pair) → List·Memᴰ y xs → Before x y) × Rising xs
+Rising = Ordered Before

@@ -3,7 +3,7 @@ use Prim.Native.Nat.{ℕ, suc, _+_, _-_, _*_, _/_, _%_, _^_, _≤_, _<_}
 use mathlib.Core.Path.{_≡_}
 use mathlib.Core.Logic.{_⊎_, _≢_}
 use mathlib.Core.Bool.{Bool, _&&_, not}
-use mathlib.Core.List.{List, [], _∷_, map, List·Memᴰ}
+use mathlib.Core.List.{List, [], _∷_, map}
 use lib.ListN.{length}
 use lib.Dec.{T, leb, ltb}
 use Rattle.abelian.specs.Lists.{upFrom, largest, same, keep, all, each}
@@ -107,11 +107,6 @@ pub record AbelianRun (w : List ℕ) (r : Run) : Type 0 where
   pub leftHand : Largest (leftFits w (r .d) (r .i)) (r .i - 1) (r .left)
   pub rightHand : Largest (rightFits w (r .d) (r .i) (r .j)) (length w - r .j) (r .right)
 
--- x stands before y: d first, then i.
+-- x stands before y in the list: "order is d, then i".
 abbrev pub RunBefore : Run → Run → Type 0
 RunBefore x y = (x .d < y .d) ⊎ ((x .d ≡ y .d) × (x .i < y .i))
-
--- Each run of the list stands before all behind it: the list rises strictly by d and then i, and "every run is listed once".
-abbrev pub RunsRise : List Run → Type 0
-RunsRise [] = Unit {0}
-RunsRise (x ∷ xs) = ((y : Run) → List·Memᴰ y xs → RunBefore x y) × RunsRise xs

@@ -1,10 +1,10 @@
 -- Laws of places: the pairs in range for 240, in pair order, stand at the places 0, 1, 2 and so on; so a board is known by its entries
 -- at the pairs.
 use mathlib.Core.Path.{_≡_, refl, sym, ap, _∙_}
-use mathlib.Core.Logic.{_⊎_, ⊎-elim}
+use mathlib.Core.Logic.{⊎-elim}
 use mathlib.Core.Bool.{Bool, true, false, _&&_}
 use mathlib.Core.List.{List, [], _∷_, _++_, map, map-append, List·Memᴰ, List·Memᴰ·head, List·Memᴰ·tail, List·Memᴰ·cases-cons, List·Memᴰ·not-nil}
-use Prim.Native.Nat.{ℕ, zero, suc, _+_, _-_, _≤_, _<_}
+use Prim.Native.Nat.{ℕ, zero, suc, _+_, _≤_, _<_}
 use native.Mathlib.Omega.{arith}
 use lib.ListN.{length, getD, set, length-append, length-map, length-set, List·getD-map}
 use lib.Seq.{ext-getD, getD-set-same, getD-set-other}
@@ -12,12 +12,12 @@ use lib.Dec.{T, eqb}
 use borrow.Author.Tests.{eqb-true, eqb-false}
 use Rattle.abelian.specs.Lists.{pick, upFrom, all, each, put, keep}
 use Rattle.abelian.specs.Words.{longest}
-use Rattle.abelian.specs.Periods.{Pair, pair, inRange, heads, row, pairs}
+use Rattle.abelian.specs.Periods.{Pair, pair, inRange, heads, row, pairs, Before}
 use Rattle.abelian.specs.EndedLengths.{boardOf}
 use Rattle.abelian.specs.Trackers.{boardSize, entries, pairsWhere}
 use Rattle.abelian.proofs.Tests.{is-true, both, left, right, decided}
-use Rattle.abelian.proofs.Lists.{all-mem, upFrom-mem, mem-keep, keep-mem, upFrom-append}
-use Rattle.abelian.proofs.Pairs.{InRange, in-range, range-in, pairs-in-range, in-range-pairs, pairs-rising, rising-keep, rising-equal}
+use Rattle.abelian.proofs.Lists.{all-mem, upFrom-mem, mem-keep, keep-mem, upFrom-append, ordered-keep}
+use Rattle.abelian.proofs.Pairs.{InRange, in-range, range-in, pairs-in-range, in-range-pairs, pairs-rising, rising-equal}
 use Rattle.periods.proofs.PairCount.{length-row, pair-count}
 use Rattle.board.specs.Places.{rowStart, placeOf, entryAt}
 
@@ -159,7 +159,7 @@ pairsWhere-boardOf f g = go (pairs longest)
 pub keep-in-range : (n : ℕ) (f : Pair → Bool) → n ≤ longest → keep (λ (x : Pair). inRange n x && f x) (pairs longest) ≡ keep f (pairs n)
 keep-in-range n f l =
     let t : Pair → Bool = λ (x : Pair). inRange n x && f x in
-    rising-equal (keep t (pairs longest)) (keep f (pairs n)) (rising-keep t (pairs longest) (pairs-rising longest)) (rising-keep f (pairs n) (pairs-rising n))
+    rising-equal (keep t (pairs longest)) (keep f (pairs n)) (ordered-keep Before t (pairs longest) (pairs-rising longest)) (ordered-keep Before f (pairs n) (pairs-rising n))
     (λ z m.
     let p : T (inRange n z && f z) = mem-keep t (pairs longest) m .1 in
     keep-mem f (pairs n) (in-range-pairs n z (left (inRange n z) (f z) p)) (right (inRange n z) (f z) p))

@@ -14,11 +14,10 @@ use Rattle.abelian.specs.Lists.{upFrom, sum, keep, all, largest}
 use Rattle.abelian.specs.Words.{letters, ofLetters, count, vector, part}
 use Rattle.abelian.specs.FullPeriods.{divides, countDivisor, scale, isScaled}
 use Rattle.abelian.proofs.Tests.{passes, both, left, right}
-use Rattle.abelian.proofs.Lists.{mem-keep, keep-mem, all-mem, mem-all, upFrom-mem}
+use Rattle.abelian.proofs.Lists.{mem-keep, keep-mem, all-mem, mem-all, upFrom-mem, le-largest, largest-le}
 use Rattle.abelian.proofs.Counts.{sum-vector, count-part, vector-counts, counts-vector}
 use Rattle.full_periods.specs.Marks.{isFull}
 use Rattle.full_periods.specs.Divisors.{GreatestDivisor}
-use Rattle.full_periods.proofs.Lists.{le-largest, largest-le}
 use Rattle.full_periods.proofs.Divisors.{divides-dvd, dvd-divides, greatest-exists}
 use Rattle.full_periods.proofs.Blocks.{next-multiple, full-divides, full-positive, full-alike, alike-full}
 

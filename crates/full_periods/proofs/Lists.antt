@@ -1,21 +1,12 @@
 -- Laws of lists that are kept, tried and measured, one element after the other.
 use mathlib.Core.Path.{_≡_, refl, ap, _∙_}
 use mathlib.Core.Bool.{Bool, true, false, _&&_}
-use mathlib.Core.List.{List, [], _∷_, _++_, append-nil, List·Memᴰ, List·Memᴰ·head, List·Memᴰ·tail, List·Memᴰ·cases-cons, List·Memᴰ·not-nil}
-use mathlib.Core.Logic.{_⊎_, inl, inr, ⊎-elim}
-use Prim.Native.Nat.{ℕ, suc, _+_, _-_, _≤_, _<_, max}
-use native.Mathlib.Nat.{le-max-left, le-max-right}
+use mathlib.Core.List.{List, [], _∷_, _++_, append-nil}
+use Prim.Native.Nat.{ℕ, suc, _+_, _-_, max}
 use native.Mathlib.Omega.{arith}
-use lib.Dec.{ltb}
-use borrow.Author.Tests.{ltb-true, ltb-false}
 use Rattle.abelian.specs.Lists.{upFrom, keep, all, largest}
 use Rattle.abelian.specs.FullPeriods.{distances}
 use Rattle.abelian.proofs.Lists.{upFrom-last, keep-append}
-use Rattle.abelian.proofs.Tests.{decided}
-
--- a number is below another or not
-pub below-or-not : (k i : ℕ) → (k < i) ⊎ (i ≤ k)
-below-or-not k i = ⊎-elim (λ e. inl (ltb-true k i e)) (λ e. inr (ltb-false k i e)) (decided (ltb k i))
 
 module _ {A : Type 0} (f : A → Bool) where
   -- two lists pass where both pass
@@ -45,21 +36,6 @@ module _ (f : ℕ → Bool) (a n : ℕ) where
       go false = refl
 
 -- ---- the largest number, and distances between neighbours
-
--- each number of a list is at most the largest
-pub le-largest : (xs : List ℕ) {x : ℕ} → List·Memᴰ x xs → x ≤ largest xs
-le-largest [] m = absurd (List·Memᴰ·not-nil m)
-le-largest (y ∷ xs) {x} m =
-    ⊎-elim (λ (q : x ≡ y). omega (arith, le-max-left y (largest xs)))
-    (λ m′. let h : x ≤ largest xs = le-largest xs m′ in omega (arith, le-max-right y (largest xs))) (List·Memᴰ·cases-cons m)
-
--- what no number exceeds the largest does not exceed
-pub largest-le : (xs : List ℕ) (b : ℕ) → ((x : ℕ) → List·Memᴰ x xs → x ≤ b) → largest xs ≤ b
-largest-le [] b h = omega arith
-largest-le (y ∷ xs) b h =
-    let i : y ≤ b = h y (List·Memᴰ·head refl) in
-    let t : largest xs ≤ b = largest-le xs b (λ x m. h x (List·Memᴰ·tail m)) in
-    omega arith
 
 -- the largest with one number more
 pub largest-more : (xs : List ℕ) (x : ℕ) → largest (xs ++ (x ∷ [])) ≡ max (largest xs) x

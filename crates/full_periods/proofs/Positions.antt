@@ -14,11 +14,10 @@ use Rattle.abelian.specs.Lists.{upFrom, keep, all, largest}
 use Rattle.abelian.specs.Words.{alphabetSize, firstLetter, longest, letters, ofLetters, count, vector}
 use Rattle.abelian.specs.FullPeriods.{divides, countDivisor, scale, isScaled, scaledPositions, distances, scaledGap}
 use Rattle.abelian.proofs.Tests.{is-true, is-false, passes, fails, both, right, decided, iff-equal}
-use Rattle.abelian.proofs.Lists.{mem-keep, keep-mem, all-mem, mem-all, mem-upFrom, upFrom-mem, keep-agree}
+use Rattle.abelian.proofs.Lists.{mem-keep, keep-mem, all-mem, mem-all, mem-upFrom, upFrom-mem, keep-agree, below-or-not}
 use Rattle.words.proofs.Vectors.{vector-at, places-letters, place-letter}
 use Rattle.full_periods.specs.Marks.{Steps, isMarked, marked, marksMultiples, isFull, scaledMarks}
 use Rattle.full_periods.specs.Divisors.{divided, unitCounts, isMultiple}
-use Rattle.full_periods.proofs.Lists.{below-or-not}
 use Rattle.full_periods.proofs.Tables.{marks-isMarked}
 use Rattle.full_periods.proofs.Divisors.{dvd-divides}
 use Rattle.full_periods.proofs.Blocks.{next-multiple, full-divides, full-positive}

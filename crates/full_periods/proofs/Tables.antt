@@ -14,11 +14,11 @@ use Rattle.abelian.specs.Lists.{one, upFrom, keep, largest}
 use Rattle.abelian.specs.Words.{longest}
 use Rattle.abelian.specs.FullPeriods.{distances}
 use Rattle.abelian.proofs.Tests.{is-false, decided}
-use Rattle.abelian.proofs.Lists.{length-upFrom, mem-upFrom, keep-agree}
+use Rattle.abelian.proofs.Lists.{length-upFrom, mem-upFrom, keep-agree, below-or-not}
 use Rattle.words.proofs.Vectors.{map-upFrom-at}
 use Rattle.full_periods.specs.Marks.{Steps, marks, isMarked, marked}
 use Rattle.words.proofs.Lists.{keep-rises}
-use Rattle.full_periods.proofs.Lists.{below-or-not, keep-more, keep-no-more, largest-more, lastOf, lastOf-more, distances-more}
+use Rattle.full_periods.proofs.Lists.{keep-more, keep-no-more, largest-more, lastOf, lastOf-more, distances-more}
 
 -- ---- a table
 

@@ -3,7 +3,7 @@
 use mathlib.Core.Path.{_≡_, refl, sym, ap, _∙_}
 use mathlib.Core.Bool.{Bool, true, false, not, _&&_}
 use mathlib.Core.Logic.{⊎-elim, _≢_}
-use mathlib.Core.List.{List, [], _∷_, map, List·Memᴰ, List·Memᴰ·head, List·Memᴰ·tail, List·Memᴰ·cases-cons, List·Memᴰ·not-nil, Memᴰ·map, Memᴰ·of-map}
+use mathlib.Core.List.{List, map, List·Memᴰ, Memᴰ·map, Memᴰ·of-map}
 use Prim.Native.Nat.{ℕ, suc, _+_, _-_, _*_, _/_, _≤_, _<_, max}
 use native.Mathlib.Nat.{zero-add, max-le}
 use native.Mathlib.Decide.{decLe}
@@ -12,30 +12,17 @@ use lib.ListN.{length, take, drop, getD, set, length-map, length-set, length-dro
 use lib.Seq.{ext-getD, getD-set-same, getD-set-other}
 use lib.Dec.{T, eqb, leb, ltb}
 use borrow.Author.Tests.{eqb-true, eqb-false, le-leb, lt-leb, lt-ltb, le-ltb}
-use Rattle.abelian.specs.Lists.{pick, upFrom, largest, all}
+use Rattle.abelian.specs.Lists.{pick, upFrom, all}
 use Rattle.abelian.specs.Words.{alphabetSize, firstLetter, longest, letters, count}
 use Rattle.abelian.specs.Periods.{Pair, inRange}
 use Rattle.abelian.specs.Trials.{ruledOut, occurrence, greatestGap, occurrenceBound, lowestTried, isCandidate}
 use Rattle.abelian.proofs.Tests.{is-true, is-false, passes, fails, decided}
-use Rattle.abelian.proofs.Lists.{mem-all, all-mem, length-upFrom}
+use Rattle.abelian.proofs.Lists.{mem-all, all-mem, length-upFrom, le-largest, largest-le}
 use Rattle.abelian.proofs.Pairs.{InRange, in-range}
 use Rattle.words.proofs.Vectors.{place-letter, places-letters, map-upFrom-at}
 use Rattle.listers.specs.Lowest.{untried, lowestPeriod, lowestPeriods}
 use Rattle.listers.proofs.Select.{occurrence-length}
 use Rattle.listers.proofs.Gaps.{gap-length}
-
--- ---- the largest of some numbers
-
--- the largest number is at most what each is
-largest-le : (xs : List ℕ) (b : ℕ) → ((a : ℕ) → List·Memᴰ a xs → a ≤ b) → largest xs ≤ b
-largest-le [] b h = omega arith
-largest-le (x ∷ xs) b h = max-le (h x (List·Memᴰ·head refl)) (largest-le xs b (λ a m. h a (List·Memᴰ·tail m)))
-
--- each is at most the largest
-le-largest : (xs : List ℕ) (a : ℕ) → List·Memᴰ a xs → a ≤ largest xs
-le-largest [] a m = absurd (List·Memᴰ·not-nil m)
-le-largest (x ∷ xs) a m =
-    ⊎-elim (λ (e : a ≡ x). omega arith) (λ i. omega (arith, le-largest xs a i)) (List·Memᴰ·cases-cons m)
 
 -- ---- L(h) is the least number above its bounds
 
@@ -54,7 +41,7 @@ module _ (w : List ℕ) (h : ℕ) where
 
   pub above-bound : (d : ℕ) → List·Memᴰ d letters → occurrenceBound w h d ≤ lowestTried w h
   unfolding lowestTried
-  above-bound d m = omega (arith, le-largest (map (occurrenceBound w h) letters) (occurrenceBound w h d) (Memᴰ·map (occurrenceBound w h) m))
+  above-bound d m = omega (arith, le-largest (map (occurrenceBound w h) letters) (Memᴰ·map (occurrenceBound w h) m))
 
   -- what is above h, above each letter's bound and above the gap's is at least L(h)
   pub lowest-least : (b : ℕ) → suc h ≤ b → ((d : ℕ) → List·Memᴰ d letters → occurrenceBound w h d ≤ b) → halfGap ≤ b → lowestTried w h ≤ b

@@ -1,18 +1,17 @@
 -- The list of squares is right: a half length and a start are in it exactly where they are an Abelian square, and the list rises strictly, by half
 -- length and then by start, so that it has each square once.
-use mathlib.Core.Path.{_≡_, refl, subst}
-use mathlib.Core.Logic.{_⊎_, ⊎-elim, _↔_}
-use mathlib.Core.Bool.{Bool, true, false}
-use mathlib.Core.List.{List, [], _∷_, _++_, map, List·Memᴰ, List·Memᴰ·head, List·Memᴰ·tail, List·Memᴰ·append-cases, Memᴰ·map, Memᴰ·of-map}
-use Prim.Native.Nat.{ℕ, zero, suc, _+_, _-_, _*_, _^_, _≤_, _<_}
+use mathlib.Core.Path.{_≡_, subst}
+use mathlib.Core.Logic.{_↔_}
+use mathlib.Core.List.{List, List·Memᴰ, Memᴰ·map, Memᴰ·of-map}
+use Prim.Native.Nat.{ℕ, suc, _+_, _-_, _*_, _^_, _≤_, _<_}
 use native.Mathlib.Omega.{arith}
 use lib.ListN.{length, drop, length-take, length-drop}
 use lib.Dec.{T}
-use Rattle.abelian.specs.Lists.{upFrom, put, keep, each}
+use Rattle.abelian.specs.Lists.{upFrom}
 use Rattle.abelian.specs.Words.{longest, vector, part}
 use Rattle.abelian.specs.Output.{outputWord, squareWord}
 use Rattle.abelian.specs.Squares.{isSquare, squareStarts, squareWords}
-use Rattle.abelian.proofs.Lists.{same-equal, equal-same, mem-keep, keep-mem, mem-upFrom, upFrom-mem, mem-each, each-mem}
+use Rattle.abelian.proofs.Lists.{same-equal, equal-same, mem-keep, keep-mem, mem-upFrom, upFrom-mem, mem-each, each-mem, ordered-keep, ordered-upFrom, ordered-map, ordered-each}
 use Rattle.squares.specs.Squares.{AbelianSquare, Increasing}
 use Rattle.squares.proofs.Candidates.{halfWords}
 
@@ -92,64 +91,34 @@ module _ (w : List ℕ) where
 
 -- ---- order
 
--- lists that rise, one behind the other, rise where the first is below the second
-pub increasing-append : (xs ys : List ℕ) → Increasing xs → Increasing ys → ((x y : ℕ) → List·Memᴰ x xs → List·Memᴰ y ys → x < y) → Increasing (xs ++ ys)
-increasing-append [] ys r s h = s
-increasing-append (x ∷ xs) ys r s h = (
-  λ y m. ⊎-elim (r .0 y) (h x y (List·Memᴰ·head refl)) (List·Memᴰ·append-cases xs m),
-  increasing-append xs ys (r .1) s (λ a b m. h a b (List·Memᴰ·tail m)),
-)
-
--- what a rising list keeps rises
-pub increasing-keep : (f : ℕ → Bool) (xs : List ℕ) → Increasing xs → Increasing (keep f xs)
-increasing-keep f [] r = tt
-increasing-keep f (x ∷ xs) r = go (f x) (increasing-keep f xs (r .1))
-  where
-    go : (b : Bool) → Increasing (keep f xs) → Increasing (put b x (keep f xs))
-    go true s = (λ y m. r .0 y (mem-keep f xs m .0), s)
-    go false s = s
-
-pub increasing-upFrom : (a n : ℕ) → Increasing (upFrom a n)
-increasing-upFrom a zero = tt
-increasing-upFrom a (suc n) = (λ y m. mem-upFrom (suc a) n m .0, increasing-upFrom (suc a) n)
-
 module _ (w : List ℕ) where
   -- the starts of a half length rise
   pub starts-increasing : (q : ℕ) → Increasing (squareStarts w q)
   unfolding squareStarts
-  starts-increasing q = increasing-keep (isSquare w q) (upFrom 1 (suc (length w) - 2 * q)) (increasing-upFrom 1 (suc (length w) - 2 * q))
+  starts-increasing q = ordered-keep _<_ (isSquare w q) (upFrom 1 (suc (length w) - 2 * q)) (ordered-upFrom 1 (suc (length w) - 2 * q))
 
   -- and so do their words
-  words-of-starts : (q : ℕ) (is : List ℕ) → Increasing is → Increasing (map (squareWord q) is)
+  words-of-starts : (q : ℕ) → Increasing (halfWords w q)
   unfolding squareWord outputWord
-  words-of-starts q [] r = tt
-  words-of-starts q (i ∷ is) r = (
-    λ y m.
-        let k : (j : ℕ) × List·Memᴰ j is × (squareWord q j ≡ y) = Memᴰ·of-map (squareWord q) is m in
-        let l : i < k .0 = r .0 (k .0) (k .1) in
-        omega (arith, k .2),
-    words-of-starts q is (r .1),
-  )
+  words-of-starts q = ordered-map _<_ _<_ (squareWord q) (λ i j l. omega arith) (squareStarts w q) (starts-increasing q)
 
   -- the word of a square is below that of one with a greater half length
   half-first : (q i r j : ℕ) → q < r → i < 2 ^ 14 → squareWord q i < squareWord r j
   unfolding squareWord outputWord
   half-first q i r j l b = omega arith
 
-  words-from : length w ≤ longest → (a m : ℕ) → 1 ≤ a → Increasing (each (upFrom a m) (halfWords w))
-  words-from short a zero l = tt
-  words-from short a (suc m) l =
-      increasing-append (halfWords w a) (each (upFrom (suc a) m) (halfWords w)) (words-of-starts a (squareStarts w a) (starts-increasing a)) (words-from short (suc a) m (omega arith))
-      (λ x y e f.
-      let r : (p : ℕ) × List·Memᴰ p (upFrom (suc a) m) × List·Memᴰ y (halfWords w p) = mem-each (halfWords w) (upFrom (suc a) m) f in
-      let i : (i : ℕ) × List·Memᴰ i (squareStarts w a) × (squareWord a i ≡ x) = Memᴰ·of-map (squareWord a) (squareStarts w a) e in
-      let j : (j : ℕ) × List·Memᴰ j (squareStarts w (r .0)) × (squareWord (r .0) j ≡ y) = Memᴰ·of-map (squareWord (r .0)) (squareStarts w (r .0)) (r .2) in
-      let b : i .0 < 2 ^ 14 = start-small w short (start-square w a (i .0) l (i .1)) in
-      let g : a < r .0 = mem-upFrom (suc a) m (r .1) .0 in
-      let h : squareWord a (i .0) < squareWord (r .0) (j .0) = half-first a (i .0) (r .0) (j .0) g b in
-      omega (arith, i .2, j .2))
+  -- a start is small where the word is
+  member-small : length w ≤ longest → (q i : ℕ) → List·Memᴰ i (squareStarts w q) → i < 2 ^ 14
+  unfolding squareStarts longest
+  member-small short q i m = omega (arith, mem-upFrom 1 (suc (length w) - 2 * q) (mem-keep (isSquare w q) (upFrom 1 (suc (length w) - 2 * q)) m .0))
 
   -- the words of all squares rise: each square is listed once, by half length and then by start
   pub words-increasing : length w ≤ longest → Increasing (squareWords w)
   unfolding squareWords
-  words-increasing short = words-from short 1 (length w) (omega arith)
+  words-increasing short =
+      ordered-each _<_ _<_ (halfWords w) words-of-starts
+      (λ q r l x y m n.
+      let i : (i : ℕ) × List·Memᴰ i (squareStarts w q) × (squareWord q i ≡ x) = Memᴰ·of-map (squareWord q) (squareStarts w q) m in
+      let j : (j : ℕ) × List·Memᴰ j (squareStarts w r) × (squareWord r j ≡ y) = Memᴰ·of-map (squareWord r) (squareStarts w r) n in
+      omega (arith, i .2, j .2, half-first q (i .0) r (j .0) l (member-small short q (i .0) (i .1))))
+      (upFrom 1 (length w)) (ordered-upFrom 1 (length w))

@@ -1,8 +1,9 @@
 -- Abelian squares, as document 003 says, and lists of numbers that rise.
 use Prim.Native.Nat.{ℕ, _+_, _-_, _*_, _≤_, _<_}
 use mathlib.Core.Path.{_≡_}
-use mathlib.Core.List.{List, [], _∷_, List·Memᴰ}
+use mathlib.Core.List.{List}
 use lib.ListN.{length}
+use Rattle.abelian.specs.Lists.{Ordered}
 use Rattle.abelian.specs.Words.{vector, part}
 
 -- The word has, from position i on, a stretch of q letters and behind it another one with the same vector.
@@ -14,5 +15,4 @@ pub record AbelianSquare (w : List ℕ) (q i : ℕ) : Type 0 where
 
 -- Each number of the list is below all behind it: the list rises strictly, and has each number once.
 abbrev pub Increasing : List ℕ → Type 0
-Increasing [] = Unit {0}
-Increasing (x ∷ xs) = ((y : ℕ) → List·Memᴰ y xs → x < y) × Increasing xs
+Increasing = Ordered _<_

@@ -14,7 +14,7 @@ use borrow.Author.Needs.{needs}
 use borrow.Author.Tests.{eqb-true, eqb-false}
 use Rattle.abelian.specs.Words.{alphabetSize, longest}
 use Rattle.abelian.proofs.Tests.{decided}
-use Rattle.full_periods.proofs.Lists.{below-or-not}
+use Rattle.abelian.proofs.Lists.{below-or-not}
 use Rattle.full_periods.proofs.counts.count_more.Statement.{statement}
 use Rattle.full_periods.proofs.counts.count_more.Tie as tie
 

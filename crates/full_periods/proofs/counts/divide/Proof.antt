@@ -10,8 +10,8 @@ use lib.ListN.{length, getD, set, length-map, length-set, List·getD-map}
 use lib.Seq.{ext-getD, getD-set-same, getD-set-other}
 use borrow.Author.Needs.{needs}
 use Rattle.abelian.specs.Words.{alphabetSize}
+use Rattle.abelian.proofs.Lists.{below-or-not}
 use Rattle.full_periods.specs.Divisors.{divided}
-use Rattle.full_periods.proofs.Lists.{below-or-not}
 use Rattle.full_periods.proofs.counts.divide.Statement.{statement}
 use Rattle.full_periods.proofs.counts.divide.Tie as tie
 

@@ -11,9 +11,8 @@ use borrow.Author.Needs.{needs}
 use Rattle.abelian.specs.Lists.{upFrom, all}
 use Rattle.abelian.specs.Words.{longest}
 use Rattle.abelian.proofs.Tests.{is-true, is-false, passes, fails}
-use Rattle.abelian.proofs.Lists.{all-mem, mem-all, mem-upFrom, upFrom-mem}
+use Rattle.abelian.proofs.Lists.{all-mem, mem-all, mem-upFrom, upFrom-mem, below-or-not}
 use Rattle.full_periods.specs.Marks.{isMarked, marksMultiples}
-use Rattle.full_periods.proofs.Lists.{below-or-not}
 use Rattle.full_periods.proofs.Tables.{one-marked, other-not-marked}
 use Rattle.full_periods.proofs.marks.marks_multiples.Statement.{statement}
 use Rattle.full_periods.proofs.marks.marks_multiples.Tie as tie

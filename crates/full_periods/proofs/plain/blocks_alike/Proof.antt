@@ -14,10 +14,9 @@ use borrow.Author.Tests.{not-true, not-false}
 use Rattle.abelian.specs.Lists.{same}
 use Rattle.abelian.specs.Words.{longest, ofLetters, vector, part}
 use Rattle.abelian.proofs.Tests.{is-true, is-false, passes, fails}
-use Rattle.abelian.proofs.Lists.{same-equal, equal-same}
+use Rattle.abelian.proofs.Lists.{same-equal, equal-same, below-or-not}
 use Rattle.abelian.proofs.Counts.{letters-part}
 use Rattle.full_periods.specs.Marks.{isFull}
-use Rattle.full_periods.proofs.Lists.{below-or-not}
 use Rattle.full_periods.proofs.Divisors.{divides-dvd}
 use Rattle.full_periods.proofs.Blocks.{next-multiple, full-alike, alike-full}
 use Rattle.full_periods.proofs.plain.blocks_alike.Statement.{statement}

@@ -1,11 +1,10 @@
 -- `runs::hands::count_beside` meets its contract: on either side the difference of two rows is the vector of the stretch. Assumes nothing.
 use mathlib.Core.Path.{_≡_, sym, ap, subst, _∙_}
 use mathlib.Core.Bool.{Bool}
-use mathlib.Core.List.{List}
-use Prim.Native.Nat.{ℕ, _+_, _-_, _≤_}
+use Prim.Native.Nat.{_+_, _-_, _≤_}
 use native.Mathlib.Omega.{arith}
 use lib.ListN.{length}
-use Rattle.abelian.specs.Words.{vector, part}
+use Rattle.abelian.specs.Words.{vector}
 use Rattle.words.proofs.Prefixes.{counted-rises, counted-part}
 use Rattle.runs.specs.Hands.{beside, room}
 use Rattle.runs.proofs.hands.count_beside.Statement.{statement}

@@ -1,19 +1,17 @@
 -- `runs::hands::hand` meets its contract. The invariant of its loop: a stretch of `hand` letters is contained in the block, and none of `past` letters or
 -- more. The measure is the lengths between them. Assumes nothing.
-use mathlib.Core.Path.{_≡_, sym, ap, ap₂, subst, _∙_}
+use mathlib.Core.Path.{_≡_, sym, ap₂, _∙_}
 use mathlib.Core.Logic.{⊎-elim}
 use mathlib.Core.Bool.{Bool, not}
 use mathlib.Core.List.{List}
-use Prim.Native.Nat.{ℕ, suc, _+_, _-_, _/_, _≤_, _<_, min}
+use Prim.Native.Nat.{ℕ, _+_, _-_, _/_}
 use native.Mathlib.Omega.{arith}
-use lib.ListN.{length}
-use lib.Dec.{T}
 use borrow.Author.Needs.{needs}
 use borrow.Author.Tests.{not-true, not-false}
 use Rattle.abelian.specs.Words.{vector, noneAbove, part}
 use Rattle.abelian.proofs.Tests.{passes, fails}
 use Rattle.words.proofs.Prefixes.{counted-rises, counted-part}
-use Rattle.runs.specs.Hands.{beside, room}
+use Rattle.runs.specs.Hands.{beside}
 use Rattle.runs.proofs.Halving.{Placed, Halving, halving-first, halving-down, halving-up, halving-done}
 use Rattle.runs.proofs.hands.hand.Statement.{statement}
 use Rattle.runs.proofs.hands.hand.Tie as tie

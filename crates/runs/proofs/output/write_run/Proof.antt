@@ -1,10 +1,10 @@
 -- `runs::output::write_run` meets its contract: its numbers are the run's, and small. Assumes nothing.
-use mathlib.Core.Path.{_≡_, refl, sym, ap, ap₂, _∙_}
+use mathlib.Core.Path.{_≡_, refl, ap, ap₂, _∙_}
 use mathlib.Core.Bool.{Bool, true, false}
 use mathlib.Core.List.{List, [], _∷_}
-use Prim.Native.Nat.{ℕ, suc, _+_, _-_, _*_, _≤_, _<_}
+use Prim.Native.Nat.{ℕ, _+_, _-_, _*_, _≤_}
 use native.Mathlib.Omega.{arith}
-use lib.ListN.{length, set, length-set}
+use lib.ListN.{length, set}
 use Rattle.abelian.specs.Words.{longest}
 use Rattle.abelian.specs.Output.{runWord, handsWord, fill}
 use Rattle.abelian.specs.Runs.{leftFits, rightFits, leftHand, rightHand, runEnd, runAt, wordsOfRun}
