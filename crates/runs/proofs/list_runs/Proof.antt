@@ -3,21 +3,19 @@ use mathlib.Core.Path.{_≡_, sym, ap, _∙_}
 use mathlib.Core.Bool.{false}
 use mathlib.Core.Option.{none}
 use mathlib.Core.List.{List}
-use Prim.Native.Nat.{ℕ, _≤_, _<_}
+use Prim.Native.Nat.{ℕ}
 use native.Mathlib.Omega.{arith}
 use lib.ListN.{length, take}
 use borrow.Author.Needs.{needs}
 use Rattle.abelian.specs.Words.{longest}
 use Rattle.abelian.specs.Refusals.{wordRefusal}
-use Rattle.abelian.specs.Output.{fill}
-use Rattle.abelian.specs.Answers.{refusing, writing}
+use Rattle.abelian.specs.Answers.{writing}
 use Rattle.abelian.specs.Runs.{runWords}
 use Rattle.abelian.specs.Calls.{runListing}
-use Rattle.abelian.specs.declared.Refusal.the-variants.{SliceTooShort}
 use Rattle.words.specs.Prefixes.{Counted}
 use Rattle.words.proofs.Refusals.{accepted-none, refused-some, accepted-length, accepted-letters}
 use Rattle.words.proofs.Lists.{take-fill}
-use Rattle.words.proofs.Listings.{listing-refused, listing-short, listing-written}
+use Rattle.words.proofs.Listings.{listing-refused, counted-short, counted-written}
 use Rattle.squares.specs.Marks.{squareMarks}
 use Rattle.squares.proofs.Candidates.{candidates-bound}
 use Rattle.runs.proofs.list_runs.Statement.{statement}
@@ -36,15 +34,6 @@ module _ (c : tie.After-enum-told) where
 
   accepted : wordRefusal w false 0 0 ≡ none
   accepted = accepted-none (wordRefusal w false 0 0) (sym (c .before .before .check-word .ensures) ∙ c .enum-told .given .1)
-
-  -- the list is refused for its length, or written
-  too-short : (needed : ℕ) → needed ≡ length (runWords w) → length out < needed → refusing (SliceTooShort needed) out ≡ runListing w out
-  unfolding runListing
-  too-short needed e h = ap (λ (k : ℕ). refusing (SliceTooShort k) out) e ∙ sym (listing-short w out (runWords w) 0 0 0 accepted (omega (arith, e)))
-
-  fits : (needed : ℕ) → needed ≡ length (runWords w) → needed ≤ length out → writing needed 0 0 0 (fill (runWords w) out) ≡ runListing w out
-  unfolding runListing
-  fits needed e h = ap (λ (k : ℕ). writing k 0 0 0 (fill (runWords w) out)) e ∙ sym (listing-written w out (runWords w) 0 0 0 accepted (omega (arith, e)))
 
 check-word-requires : tie.Need-check-word-requires
 check-word-requires c κs = search needs
@@ -93,9 +82,11 @@ count-runs-requires c κs =
     (accepted-length (w told) (accepted told), marked (c .before .before))
 
 returns-2 : tie.Need-returns-2
+unfolding runListing
 returns-2 c =
-    let counting = c .before in
-    too-short (counting .before .before .before .before .before .before .before) (counting .count-runs .result) (counting .count-runs .ensures) (c .if1 .taken)
+    let told = c .before .before .before .before .before .before .before .before in
+    let call = c .before .count-runs in
+    counted-short (w told) (out told) (runWords (w told)) 0 0 0 (accepted told) (call .result) (call .ensures) (c .if1 .taken)
 
 slice-aggregate-write-runs : tie.Need-slice-aggregate-write-runs
 slice-aggregate-write-runs c = search needs
@@ -112,10 +103,13 @@ same-length : tie.Need-same-length
 same-length c = search needs
 
 returns-3 : tie.Need-returns-3
+unfolding runListing
 returns-3 c =
     let counting = c .before .before .before .before .before .before .before in
+    let told = counting .before .before .before .before .before .before .before in
     ap (writing (counting .count-runs .result) 0 0 0) (c .before .before .write-runs .ensures)
-    ∙ fits (counting .before .before .before .before .before .before .before) (counting .count-runs .result) (counting .count-runs .ensures) (c .before .before .before .before .before .before .if1 .left)
+    ∙ counted-written (w told) (out told) (runWords (w told)) 0 0 0 (accepted told) (counting .count-runs .result) (counting .count-runs .ensures)
+    (c .before .before .before .before .before .before .if1 .left)
 
 pub list-runs-spec : {M : Type 1} → statement M
 list-runs-spec =

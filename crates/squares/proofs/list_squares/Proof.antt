@@ -4,21 +4,19 @@ use mathlib.Core.Path.{_≡_, sym, ap, _∙_}
 use mathlib.Core.Bool.{false}
 use mathlib.Core.Option.{none}
 use mathlib.Core.List.{List}
-use Prim.Native.Nat.{ℕ, _≤_, _<_}
+use Prim.Native.Nat.{ℕ}
 use native.Mathlib.Omega.{arith}
 use lib.ListN.{length, take}
 use borrow.Author.Needs.{needs}
 use Rattle.abelian.specs.Words.{longest}
 use Rattle.abelian.specs.Refusals.{wordRefusal}
-use Rattle.abelian.specs.Output.{fill}
-use Rattle.abelian.specs.Answers.{refusing, writing}
+use Rattle.abelian.specs.Answers.{writing}
 use Rattle.abelian.specs.Squares.{squareWords}
 use Rattle.abelian.specs.Calls.{squareListing}
-use Rattle.abelian.specs.declared.Refusal.the-variants.{SliceTooShort}
 use Rattle.words.proofs.Refusals.{accepted-none, refused-some, accepted-length, accepted-letters}
 use Rattle.squares.specs.Marks.{squareMarks}
 use Rattle.words.proofs.Lists.{take-fill}
-use Rattle.words.proofs.Listings.{listing-refused, listing-short, listing-written}
+use Rattle.words.proofs.Listings.{listing-refused, counted-short, counted-written}
 use Rattle.squares.proofs.Candidates.{candidates-bound}
 use Rattle.squares.proofs.list_squares.Statement.{statement}
 use Rattle.squares.proofs.list_squares.Tie as tie
@@ -36,15 +34,6 @@ module _ (c : tie.After-enum-told) where
 
   accepted : wordRefusal w false 0 0 ≡ none
   accepted = accepted-none (wordRefusal w false 0 0) (sym (c .before .before .check-word .ensures) ∙ c .enum-told .given .1)
-
-  -- the list is refused for its length, or written
-  too-short : (needed : ℕ) → needed ≡ length (squareWords w) → length out < needed → refusing (SliceTooShort needed) out ≡ squareListing w out
-  unfolding squareListing
-  too-short needed e h = ap (λ (k : ℕ). refusing (SliceTooShort k) out) e ∙ sym (listing-short w out (squareWords w) 0 0 0 accepted (omega (arith, e)))
-
-  fits : (needed : ℕ) → needed ≡ length (squareWords w) → needed ≤ length out → writing needed 0 0 0 (fill (squareWords w) out) ≡ squareListing w out
-  unfolding squareListing
-  fits needed e h = ap (λ (k : ℕ). writing k 0 0 0 (fill (squareWords w) out)) e ∙ sym (listing-written w out (squareWords w) 0 0 0 accepted (omega (arith, e)))
 
 check-word-requires : tie.Need-check-word-requires
 check-word-requires c κs = search needs
@@ -79,7 +68,11 @@ mark-squares-requires c κs =
     )
 
 returns-2 : tie.Need-returns-2
-returns-2 c = too-short (c .before .before .before .before .before .before) (c .before .before .mark-squares .result) (c .before .before .mark-squares .ensures .0) (c .if1 .taken)
+unfolding squareListing
+returns-2 c =
+    let told = c .before .before .before .before .before .before in
+    let call = c .before .before .mark-squares in
+    counted-short (w told) (out told) (squareWords (w told)) 0 0 0 (accepted told) (call .result) (call .ensures .0) (c .if1 .taken)
 
 slice-aggregate-write-squares : tie.Need-slice-aggregate-write-squares
 slice-aggregate-write-squares c = search needs
@@ -99,11 +92,13 @@ same-length : tie.Need-same-length
 same-length c = search needs
 
 returns-3 : tie.Need-returns-3
+unfolding squareListing
 returns-3 c =
     let marked = c .before .before .before .before .before .before .before in
     let told = marked .before .before .before .before in
     ap (writing (marked .mark-squares .result) 0 0 0) (c .before .before .write-squares .ensures)
-    ∙ fits told (marked .mark-squares .result) (marked .mark-squares .ensures .0) (c .before .before .before .before .before .if1 .left)
+    ∙ counted-written (w told) (out told) (squareWords (w told)) 0 0 0 (accepted told) (marked .mark-squares .result) (marked .mark-squares .ensures .0)
+    (c .before .before .before .before .before .if1 .left)
 
 pub list-squares-spec : {M : Type 1} → statement M
 list-squares-spec =

@@ -6,6 +6,7 @@ use mathlib.Core.Bool.{Bool, not}
 use mathlib.Core.List.{List}
 use Prim.Native.Nat.{ℕ, _+_, _-_, _/_}
 use native.Mathlib.Omega.{arith}
+use lib.Dec.{T}
 use borrow.Author.Needs.{needs}
 use borrow.Author.Tests.{not-true, not-false}
 use Rattle.abelian.specs.Words.{vector, noneAbove, part}
@@ -65,7 +66,7 @@ count-beside-requires c κs = search needs
 exceeds-requires : tie.Need-exceeds-requires Inv-loop μ-loop
 exceeds-requires c κs = search needs
 
--- what is compared are the vectors of the stretch in the middle and of the block
+-- what is known once the stretch in the middle is compared with the block
 module _ (c : tie.After-exceeds Inv-loop μ-loop) where
   abbrev at-loop : tie.At-loop Inv-loop μ-loop
   at-loop = c .before .before .before .before
@@ -73,40 +74,58 @@ module _ (c : tie.After-exceeds Inv-loop μ-loop) where
   abbrev start : tie.Start Inv-loop μ-loop
   start = at-loop .before .before .before .before .before
 
+  abbrev w : List ℕ
+  w = start .args .word .now
+
+  abbrev d : ℕ
+  d = start .args .half
+
+  abbrev i : ℕ
+  i = start .args .start
+
+  abbrev before : Bool
+  before = start .args .before
+
+  abbrev at : ℕ
+  at = start .args .at
+
+  abbrev hand : ℕ
+  hand = at-loop .loop .hand
+
+  abbrev past : ℕ
+  past = at-loop .loop .past
+
+  abbrev middle : ℕ
+  middle = (hand + past) / 2
+
+  -- no count of the stretch is above that of the block
   abbrev fits : Bool
-  fits =
-      noneAbove (vector (beside (start .args .word .now) (start .args .before) (start .args .at) ((at-loop .loop .hand + at-loop .loop .past) / 2)))
-      (vector (part (start .args .word .now) (start .args .start - 1) (start .args .half)))
+  fits = noneAbove (vector (beside w before at middle)) (vector (part w (i - 1) d))
 
   compared : c .exceeds .result ≡ not fits
   compared =
       c .exceeds .ensures
       ∙ ap₂ (λ (u v : List ℕ). not (noneAbove u v)) (c .before .count-beside .ensures)
-      (at-loop .before .before .before .between .ensures ∙ counted-part (start .args .word .now) (start .args .table .now) (start .pre .0) (start .args .start - 1) (start .args .half) (omega (arith, start .pre .1 .0)))
+      (at-loop .before .before .before .between .ensures ∙ counted-part w (start .args .table .now) (start .pre .0) (i - 1) d (omega (arith, start .pre .1 .0)))
+
+  -- the lengths are halved either way
+  down : (T fits → ⊥) → Halving w d i before at hand middle
+  down = halving-down w d i before at (placed start) hand past (at-loop .loop .inv) middle (omega arith) (omega arith)
+
+  up : T fits → Halving w d i before at middle past
+  up = halving-up w d i before at (placed start) hand past (at-loop .loop .inv) middle (omega arith) (omega arith)
 
 loop-less : tie.Need-loop-less Inv-loop μ-loop
 loop-less c = search needs
 
 loop-again : tie.Need-loop-again Inv-loop μ-loop
-loop-again c =
-    let at-loop = c .before .before .before .before .before in
-    let start = at-loop .before .before .before .before .before in
-    let hand = at-loop .loop .hand in
-    let past = at-loop .loop .past in
-    halving-down (start .args .word .now) (start .args .half) (start .args .start) (start .args .before) (start .args .at) (placed start) hand past (at-loop .loop .inv) ((hand + past) / 2) (omega arith) (omega arith)
-    (fails (fits (c .before)) (not-true (fits (c .before)) (sym (compared (c .before)) ∙ c .if2 .taken)))
+loop-again c = down (c .before) (fails (fits (c .before)) (not-true (fits (c .before)) (sym (compared (c .before)) ∙ c .if2 .taken)))
 
 loop-less-2 : tie.Need-loop-less-2 Inv-loop μ-loop
 loop-less-2 c = search needs
 
 loop-again-2 : tie.Need-loop-again-2 Inv-loop μ-loop
-loop-again-2 c =
-    let at-loop = c .before .before .before .before .before in
-    let start = at-loop .before .before .before .before .before in
-    let hand = at-loop .loop .hand in
-    let past = at-loop .loop .past in
-    halving-up (start .args .word .now) (start .args .half) (start .args .start) (start .args .before) (start .args .at) (placed start) hand past (at-loop .loop .inv) ((hand + past) / 2) (omega arith) (omega arith)
-    (passes (fits (c .before)) (not-false (fits (c .before)) (sym (compared (c .before)) ∙ c .if2 .left)))
+loop-again-2 c = up (c .before) (passes (fits (c .before)) (not-false (fits (c .before)) (sym (compared (c .before)) ∙ c .if2 .left)))
 
 returns : tie.Need-returns Inv-loop μ-loop
 returns c =
