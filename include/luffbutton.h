@@ -66,7 +66,7 @@
  *
  *     luff_list_plain, luff_list_skipping           1.8 to 2.2
  *     luff_list_squares, luff_report                1.8 to 2.2
- *     luff_list_runs                                GROWTH-TO-MEASURE
+ *     luff_list_runs                                1.8 to 2.7
  *     luff_tracker_add, n being the letters held    1.8 to 2.0
  *     luff_list_full                                1.0 to 1.2
  *     luff_find_cover                               1.0
@@ -123,7 +123,7 @@ extern "C" {
 #define LUFF_STACK_LIST_FULL 4096
 #define LUFF_STACK_LIST_FULL_SCALED 4096
 #define LUFF_STACK_LIST_SQUARES 20480
-#define LUFF_STACK_LIST_RUNS 20480
+#define LUFF_STACK_LIST_RUNS 24576
 #define LUFF_STACK_FIND_COVER 4096
 #define LUFF_STACK_REPORT 49152
 #define LUFF_STACK_TRACKER 12288
