@@ -1,4 +1,5 @@
 pub mod Rows
 pub mod Marks
+pub mod Bound
 pub mod Chains
 pub mod Halving

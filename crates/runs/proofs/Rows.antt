@@ -2,19 +2,16 @@
 use mathlib.Core.Path.{_≡_, refl, sym, ap, _∙_}
 use mathlib.Core.Bool.{true, false, not}
 use mathlib.Core.List.{List, [], _++_, map, map-append, append-nil}
-use Prim.Native.Nat.{ℕ, zero, suc, _+_, _-_, _*_, _/_, _≤_, _<_}
+use Prim.Native.Nat.{ℕ, suc, _+_, _-_, _*_, _≤_, _<_}
 use native.Mathlib.Numerals.{add-one}
 use native.Mathlib.Omega.{arith}
-use lib.ListN.{length, length-append, length-map}
+use lib.ListN.{length, length-map}
 use Rattle.abelian.specs.Lists.{upFrom, put, keep, each}
-use Rattle.abelian.specs.Words.{longest}
 use Rattle.abelian.specs.Squares.{isSquare, squareStarts}
 use Rattle.abelian.specs.Runs.{goesBack, runStarts, runAt, runs, wordsOfRun, runWords}
-use Rattle.abelian.proofs.Lists.{keep-keep, each-append, each-each, each-last, length-each}
+use Rattle.abelian.proofs.Lists.{keep-keep, each-append, each-each, length-each}
 use Rattle.words.proofs.Lists.{keep-rises}
-use Rattle.squares.specs.Marks.{startMarks, squareMarks}
-use Rattle.squares.proofs.Lists.{keep-more, keep-shorter, each-more, each-fits, each-rest}
-use Rattle.squares.proofs.Candidates.{fewer-words, candidates-bound}
+use Rattle.squares.proofs.Lists.{keep-more, each-more, each-fits, each-rest}
 use Rattle.runs.specs.Rows.{startsRun, rowWords}
 
 module _ (w : List ℕ) (d : ℕ) where
@@ -33,7 +30,7 @@ module _ (w : List ℕ) (d : ℕ) where
       (sym (keep-keep (λ (i : ℕ). not (goesBack w d i)) (isSquare w d) (upFrom 1 (suc (length w) - 2 * d)))))
 
   -- how many they are
-  length-upTo : (s : ℕ) → length (wordsUpTo s) ≡ 2 * length (keep (startsRun w d) (upFrom 1 s))
+  pub length-upTo : (s : ℕ) → length (wordsUpTo s) ≡ 2 * length (keep (startsRun w d) (upFrom 1 s))
   unfolding wordsOfRun
   length-upTo s =
       let is : List ℕ = keep (startsRun w d) (upFrom 1 s) in
@@ -75,7 +72,7 @@ module _ (w : List ℕ) where
   words-of-rows = each-each (λ (d : ℕ). map (runAt w d) (runStarts w d)) wordsOfRun (upFrom 1 (length w))
 
   -- blocks that are longer than half the word have no run
-  long-no-words : (d : ℕ) → length w < 2 * d → rowWords w d ≡ []
+  pub long-no-words : (d : ℕ) → length w < 2 * d → rowWords w d ≡ []
   unfolding rowWords runStarts squareStarts
   long-no-words d h = let e : suc (length w) - 2 * d ≡ 0 = omega arith in rw e
 
@@ -92,35 +89,3 @@ module _ (w : List ℕ) where
   -- they are no more than those of all block lengths
   pub rows-fit : (q : ℕ) → 1 ≤ q → 2 * q ≤ length w → length (rowsBelow q) + length (rowWords w q) ≤ length (runWords w)
   rows-fit q positive fits = omega (arith, each-fits (rowWords w) q (length w) positive (omega arith), ap length words-of-rows)
-
-  -- ---- how many words there are
-
-  -- no block length has more than two for each of its candidates
-  pub few-words : (d : ℕ) → length (rowWords w d) ≤ 2 * length (startMarks w d)
-  unfolding rowWords runStarts wordsOfRun
-  few-words d =
-      omega (
-        arith,
-        length-each wordsOfRun 2 (λ r. refl) (map (runAt w d) (runStarts w d)),
-        length-map (runStarts w d) (runAt w d),
-        keep-shorter (λ (i : ℕ). not (goesBack w d i)) (squareStarts w d),
-        fewer-words w d,
-      )
-
-  few-below : (k : ℕ) → length (each (upFrom 1 k) (rowWords w)) ≤ 2 * length (each (upFrom 1 k) (startMarks w))
-  few-below zero = omega arith
-  few-below (suc k) =
-      omega (
-        arith,
-        few-below k,
-        few-words (1 + k),
-        ap length (each-last (rowWords w) 1 k),
-        ap length (each-last (startMarks w) 1 k),
-        length-append (each (upFrom 1 k) (rowWords w)) (rowWords w (1 + k)),
-        length-append (each (upFrom 1 k) (startMarks w)) (startMarks w (1 + k)),
-      )
-
-  -- so no word of letters needs more places than two for each candidate of the longest
-  pub places-enough : length w ≤ longest → length (runWords w) ≤ 2 * ((longest / 2) * (longest / 2))
-  unfolding squareMarks
-  places-enough h = omega (arith, ap length words-of-rows, few-below (length w), candidates-bound w h)

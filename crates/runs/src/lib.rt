@@ -16,8 +16,9 @@ ghost use mathlib.Core.Path.{_≡_};
 ghost use Rattle.abelian.specs.Answers.{answeredWrote};
 ghost use Rattle.abelian.specs.Calls.{runListing};
 
-// Places enough for the runs of every word: a bound, two for each candidate of a square. No word is known to need as many.
-pub const PLACES: usize = 2 * CANDIDATES;
+// Places enough for the runs of every word: a bound and not a maximum. No two runs of one block length start one block apart, and each run takes two places;
+// no word is known to need as many.
+pub const PLACES: usize = 17682;
 
 // Writes all Abelian runs of the word, two words each, by the length of a block and then by start.
 pub fn list_runs(word: &[u8], out: &mut [u32]) -> Wrote

@@ -13,7 +13,8 @@ use Rattle.words.proofs.Lists.{length-fill, fill-lent}
 use Rattle.squares.specs.Marks.{startMarks}
 use Rattle.squares.proofs.Candidates.{marksBelow, marks-lent, marks-within, length-marks-more}
 use Rattle.runs.specs.Rows.{rowWords}
-use Rattle.runs.proofs.Rows.{rowsBelow, all-rows, rows-more, rows-fit, places-enough}
+use Rattle.runs.proofs.Rows.{rowsBelow, all-rows, rows-more, rows-fit}
+use Rattle.runs.proofs.Bound.{places-enough, bound-number}
 use Rattle.runs.proofs.output.write_runs.Statement.{statement}
 use Rattle.runs.proofs.output.write_runs.Tie as tie
 
@@ -66,9 +67,8 @@ module _ (c : tie.In-loop Inv-loop μ-loop) where
   places-left : at + length (rowWords w q) ≤ length (c .before .loop .out)
   places-left = omega (arith, inv .reached, inv .size, rows-fit w q (inv .positive) (c .loop-test .taken), start .pre .1 .1)
 
-  few : at + length (rowWords w q) ≤ 28800
-  unfolding longest
-  few = omega (arith, inv .reached, rows-fit w q (inv .positive) (c .loop-test .taken), places-enough w (start .pre .0 .short))
+  few : at + length (rowWords w q) ≤ 17682
+  few = omega (arith, inv .reached, rows-fit w q (inv .positive) (c .loop-test .taken), places-enough w (start .pre .0 .short), bound-number)
 
 loop-holds : tie.Need-loop-holds Inv-loop μ-loop
 unfolding fill

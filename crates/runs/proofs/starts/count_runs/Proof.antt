@@ -10,7 +10,8 @@ use Rattle.abelian.specs.Words.{longest}
 use Rattle.squares.specs.Marks.{startMarks}
 use Rattle.squares.proofs.Candidates.{marksBelow, marks-lent, marks-within, length-marks-more}
 use Rattle.runs.specs.Rows.{rowWords}
-use Rattle.runs.proofs.Rows.{rowsBelow, all-rows, rows-more, rows-fit, places-enough}
+use Rattle.runs.proofs.Rows.{rowsBelow, all-rows, rows-more, rows-fit}
+use Rattle.runs.proofs.Bound.{places-enough, bound-number}
 use Rattle.runs.proofs.starts.count_runs.Statement.{statement}
 use Rattle.runs.proofs.starts.count_runs.Tie as tie
 
@@ -52,13 +53,13 @@ module _ (c : tie.In-loop Inv-loop μ-loop) where
   lent = marks-lent w q (inv .positive) (c .loop-test .taken) (start .args .marks .now) (start .pre .1) from (inv .read)
 
   -- the words are few
-  all-fit : length (rowsBelow w (q + 1)) ≤ 28800
-  unfolding longest
+  all-fit : length (rowsBelow w (q + 1)) ≤ 17682
   all-fit =
       omega (
         arith,
         rows-fit w q (inv .positive) (c .loop-test .taken),
         places-enough w (start .pre .0),
+        bound-number,
         ap length (rows-more w q (inv .positive)),
         length-append (rowsBelow w q) (rowWords w q),
       )
