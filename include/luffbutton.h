@@ -111,10 +111,10 @@ extern "C" {
 #define LUFF_MOST_REPORT 28941
 
 /*
- * Places enough for the runs of every word, 115,200 bytes: each run begins with a square of its own, and is two words. It is a bound and
- * not the longest list, which is not known.
+ * Places enough for the runs of every word, 70,728 bytes: no two runs of one d start d letters apart, and each is two words. It is a
+ * bound and not the longest list, which is not known.
  */
-#define LUFF_BOUND_RUNS 28800
+#define LUFF_BOUND_RUNS 17682
 
 /* The limits on stack, in bytes. LUFF_STACK_TRACKER is for each of a tracker's calls, and LUFF_STACK is the greatest. */
 #define LUFF_STACK_JUDGE 4096

@@ -13,12 +13,24 @@ use squares::CANDIDATES;
 use squares::marks::mark_squares;
 use starts::count_runs;
 ghost use mathlib.Core.Path.{_≡_};
+ghost use mathlib.Core.List.{List};
+ghost use Prim.Native.Nat.{ℕ, _≤_};
+ghost use lib.ListN.{length};
+ghost use Rattle.abelian.specs.Words.{longest};
+ghost use Rattle.abelian.specs.Runs.{runWords};
 ghost use Rattle.abelian.specs.Answers.{answeredWrote};
 ghost use Rattle.abelian.specs.Calls.{runListing};
 
-// Places enough for the runs of every word: a bound and not a maximum. No two runs of one block length start one block apart, and each run takes two places;
-// no word is known to need as many.
+// Places enough for the runs of every word: a bound and not a maximum. No two runs of one block length start one block apart, so that at most half of the
+// candidates of two blocks in a row are starts, and a run takes two places. No word is known to need as many.
 pub const PLACES: usize = 17682;
+
+// That number, with the promise that it is enough.
+pub fn places() -> usize
+    ensures { λ r. ⌜ ((w : List ℕ) → length w ≤ longest → length (runWords w) ≤ r) ⌝ }
+{
+    PLACES
+}
 
 // Writes all Abelian runs of the word, two words each, by the length of a block and then by start.
 pub fn list_runs(word: &[u8], out: &mut [u32]) -> Wrote

@@ -21,10 +21,10 @@ pub const MOST_SQUARES: usize = 14400;
 /// The most words that a list of full periods can have.
 pub const MOST_FULL: usize = 20;
 
-/// A bound on the words of a list of runs: no list has more. Each run begins with a square of its own and takes two words, and no word
-/// has more than [`MOST_SQUARES`] squares. It is a bound and not the most words that a list can have, which we do not know; the longest
-/// list that we have met, that of `aabb` sixty times, has 10,940.
-pub const BOUND_RUNS: usize = 2 * MOST_SQUARES;
+/// A bound on the words of a list of runs: no list has more. No two runs of one block length start one block apart, and a run takes two
+/// words. It is a bound and not the most words that a list can have, which we do not know; the longest list that we have met, that of
+/// `aabb` sixty times, has 10,940.
+pub const BOUND_RUNS: usize = 17682;
 
 /// The most words that a report can have: its head and the three lists.
 pub const MOST_REPORT: usize = 1 + MOST_FULL + MOST_PERIODS + MOST_SQUARES;
