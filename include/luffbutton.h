@@ -62,7 +62,8 @@
  *
  * STACK AND TIME. The macros LUFF_STACK_.. below limit the bytes of stack that a call takes beyond the word, the places and the tracker that
  * it is lent. They are measured and not proved: examples/c/stack_use.c makes each call in several ways and fails above them. How the time
- * grows was measured from 120 to 240 letters on words of six kinds, as n to the power (docs/PERFORMANCE.md, which has the times too):
+ * grows was measured from 120 to 240 letters on words of six kinds, that of luff_list_runs also on abba repeated, as n to the power
+ * (docs/PERFORMANCE.md, which has the times too):
  *
  *     luff_list_plain, luff_list_skipping           1.8 to 2.2
  *     luff_list_squares, luff_report                1.8 to 2.2
@@ -160,7 +161,8 @@ enum luff_refusal {
  *
  * A run is two words, one of LUFF_KIND_RUN and behind it one of LUFF_KIND_HANDS. The second has three numbers below its kind: j in 12 bits,
  * then the lengths of the left hand and of the right hand in 8 bits each. LUFF_WORD_KIND and the three macros LUFF_RUN_.. read it;
- * LUFF_WORD_UPPER and LUFF_WORD_LOWER do not.
+ * LUFF_WORD_UPPER and LUFF_WORD_LOWER do not. So a list of runs is read two words at a time: d and i are LUFF_WORD_UPPER and
+ * LUFF_WORD_LOWER of out[k], and j and the hands are LUFF_RUN_END, LUFF_RUN_LEFT and LUFF_RUN_RIGHT of out[k + 1].
  */
 #define LUFF_KIND_PERIOD 1u
 #define LUFF_KIND_SQUARE 2u

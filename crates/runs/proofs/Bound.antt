@@ -1,5 +1,5 @@
 -- Laws of how many words the runs of a word can have: no two runs of one block length start one block apart, so that of the candidates of two blocks in a row
--- at most half are starts.
+-- at most period are starts.
 use mathlib.Core.Path.{_≡_, refl, sym, ap, _∙_}
 use mathlib.Core.Bool.{Bool, true, false}
 use mathlib.Core.List.{List, map}
@@ -49,38 +49,38 @@ module _ (f : ℕ → Bool) (d : ℕ) (apart : (i : ℕ) → 1 ≤ i → T (f i)
       go false false n = omega arith
 
   -- of m numbers in a row and the m numbers d behind them at most m pass
-  two-rows : (a m : ℕ) → 1 ≤ a → kept f a m + kept f (a + d) m ≤ m
-  two-rows a zero h = omega arith
-  two-rows a (suc m) h =
+  at-most-one-of-two : (a m : ℕ) → 1 ≤ a → kept f a m + kept f (a + d) m ≤ m
+  at-most-one-of-two a zero h = omega arith
+  at-most-one-of-two a (suc m) h =
       let e : a + d + m ≡ a + m + d = omega arith in
       let more : kept f (a + d) (suc m) ≡ kept f (a + d) m + one (f (a + m + d)) = rw e at (length-keep-more f (a + d) m) in
-      omega (arith, two-rows a m h, length-keep-more f a m, more, one-of-two (a + m) (omega arith))
+      omega (arith, at-most-one-of-two a m h, length-keep-more f a m, more, one-of-two (a + m) (omega arith))
 
   -- so of 2 * d numbers in a row at most d pass
-  half-row : (a : ℕ) → 1 ≤ a → kept f a (2 * d) ≤ d
-  half-row a h =
+  at-most-half : (a : ℕ) → 1 ≤ a → kept f a (2 * d) ≤ d
+  at-most-half a h =
       let e : d + d ≡ 2 * d = omega arith in
-      omega (arith, rw e at (kept-append f a d d), two-rows a d h)
+      omega (arith, rw e at (kept-append f a d d), at-most-one-of-two a d h)
 
   -- of fewer numbers no more pass, and no more than there are
-  part-row : (a r : ℕ) → 1 ≤ a → r ≤ 2 * d → kept f a r ≤ min r d
-  part-row a r h l = omega (arith, keep-shorter f (upFrom a r), length-upFrom a r, keep-rises f a l, half-row a h)
+  at-most-part : (a r : ℕ) → 1 ≤ a → r ≤ 2 * d → kept f a r ≤ min r d
+  at-most-part a r h l = omega (arith, keep-shorter f (upFrom a r), length-upFrom a r, keep-rises f a l, at-most-half a h)
 
   -- k times 2 * d numbers in a row, and r more
-  rows-and-part : (k a r : ℕ) → 1 ≤ a → r ≤ 2 * d → kept f a (k * (2 * d) + r) ≤ d * k + min r d
-  rows-and-part zero a r h l =
+  at-most-halves : (k a r : ℕ) → 1 ≤ a → r ≤ 2 * d → kept f a (k * (2 * d) + r) ≤ d * k + min r d
+  at-most-halves zero a r h l =
       let e : 0 * (2 * d) + r ≡ r = omega arith in
-      rw e (omega (arith, part-row a r h l))
-  rows-and-part (suc k) a r h l =
+      rw e (omega (arith, at-most-part a r h l))
+  at-most-halves (suc k) a r h l =
       let e : suc k * (2 * d) + r ≡ 2 * d + (k * (2 * d) + r) = omega (arith, suc-mul k (2 * d)) in
-      rw e (omega (arith, kept-append f a (2 * d) (k * (2 * d) + r), half-row a h, rows-and-part k (a + 2 * d) r (omega arith) l, mul-suc d k))
+      rw e (omega (arith, kept-append f a (2 * d) (k * (2 * d) + r), at-most-half a h, at-most-halves k (a + 2 * d) r (omega arith) l, mul-suc d k))
 
   -- so the bound holds for every c numbers in a row
   kept-bound : (a c : ℕ) → 1 ≤ a → 1 ≤ d → kept f a c ≤ rowBound c d
   unfolding rowBound
   kept-bound a c h size =
       let positive : 0 < 2 * d = omega arith in
-      rw (div-add-mod' c (2 * d)) at (rows-and-part (c / (2 * d)) a (c % (2 * d)) h (omega (arith, mod-lt c positive)))
+      rw (div-add-mod' c (2 * d)) at (at-most-halves (c / (2 * d)) a (c % (2 * d)) h (omega (arith, mod-lt c positive)))
 
 -- ---- starts of runs
 

@@ -13,7 +13,7 @@ use Rattle.abelian.specs.Runs.{most, repeats, runEnd}
 use Rattle.abelian.proofs.Lists.{same-equal, equal-same, below-or-not}
 use Rattle.abelian.proofs.Runs.{Blocks, two-blocks, blocks-repeats, repeats-blocks, blocks-largest, largest-most, most-largest, blockVector, firstVector}
 
--- squares of half length d stand at i, i + d and so on up to `last`, and their blocks repeat
+-- squares of block length d stand at i, i + d and so on up to `last`, and their blocks repeat
 pub record Chain (w : List ℕ) (d i last : ℕ) : Type 0 where
   pub steps : ℕ
   pub place : last ≡ i + steps * d

@@ -12,7 +12,7 @@ use Rattle.abelian.specs.Squares.{isSquare}
 use Rattle.abelian.specs.Runs.{goesBack}
 use Rattle.abelian.proofs.Tests.{right, passes}
 use Rattle.squares.specs.Marks.{startMarks}
-use Rattle.squares.proofs.Candidates.{length-startMarks, start-mark}
+use Rattle.squares.proofs.Candidates.{length-startMarks, start-mark, start-marked}
 use Rattle.runs.specs.Rows.{startsRun}
 
 -- a run begins with a square
@@ -26,32 +26,16 @@ module _ (w marks : List ℕ) (d i : ℕ) (e : marks ≡ startMarks w d) (start 
   candidates = omega (arith, ap length e, length-startMarks w d)
 
   -- the mark of a candidate is 1 where a square stands there, and else 0
-  pub mark-at : getD marks (i - 1) 0 ≡ one (isSquare w d i)
+  mark-at : getD marks (i - 1) 0 ≡ one (isSquare w d i)
   mark-at = ap (λ (l : List ℕ). getD l (i - 1) 0) e ∙ start-mark w d i start candidates
 
-  -- a candidate whose mark is not 0 is a square, and one whose mark is 0 is none
-  pub marked-square : (getD marks (i - 1) 0 ≡ 0 → ⊥) → T (isSquare w d i)
-  marked-square h = go (isSquare w d i) mark-at
-    where
-      go : (b : Bool) → getD marks (i - 1) 0 ≡ one b → T b
-      go true q = tt
-      go false q = absurd (h q)
-
-  pub not-marked : getD marks (i - 1) 0 ≡ 0 → T (isSquare w d i) → ⊥
-  not-marked h = go (isSquare w d i) mark-at
-    where
-      go : (b : Bool) → getD marks (i - 1) 0 ≡ one b → T b → ⊥
-      go true q t = omega arith
-      go false q t = t
+  pub mark-told : eqb (getD marks (i - 1) 0) 1 ≡ isSquare w d i
+  mark-told = ap (λ (l : List ℕ). eqb (getD l (i - 1) 0) 1) e ∙ start-marked w d i start candidates
 
   -- no block lies before the first d starts
   pub first-starts : i ≤ d → eqb (getD marks (i - 1) 0) 1 ≡ startsRun w d i
   unfolding startsRun goesBack
-  first-starts h = rw (mark-at, le-ltb d i h) (go (isSquare w d i))
-    where
-      go : (b : Bool) → eqb (one b) 1 ≡ b
-      go true = refl
-      go false = refl
+  first-starts h = rw (le-ltb d i h) mark-told
 
   -- of the others the candidate one block before tells
   pub later-starts : d < i → ltb (getD marks (i - 1 - d) 0) (getD marks (i - 1) 0) ≡ startsRun w d i

@@ -3,7 +3,7 @@ use Prim.Native.Nat.{ℕ, suc, _+_, _-_, _*_, _/_, _%_, min}
 use mathlib.Core.List.{map}
 use Rattle.abelian.specs.Lists.{upFrom, sum}
 
--- how many of c starts in a row, no two of them d apart, there can be: d of each 2 * d, and of those that are left all, but no more than d
+-- of c candidates in a row, how many can be starts where no two starts are d apart: d of each 2 * d, and of those that are left all, but no more than d
 unfoldable pub rowBound : ℕ → ℕ → ℕ
 rowBound c d = d * (c / (2 * d)) + min (c % (2 * d)) d
 

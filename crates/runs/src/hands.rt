@@ -15,20 +15,17 @@ ghost use Rattle.squares.specs.Marks.{startMarks};
 ghost use Rattle.runs.specs.Hands.{beside, room, handOf};
 
 // Where the whole blocks end that begin with the square at a start: as long as a square stands one block further on, there is one block more.
-pub(crate) fn run_end(word: &[u8], marks: &[u8], half: usize, start: usize) -> usize
-    requires { ⌜ now marks ≡ startMarks (now word) half ⌝ }
-    requires { ⌜ (1 ≤ half) × (1 ≤ start) × (start ≤ length (now marks)) ⌝ }
-    requires { ⌜ T (isSquare (now word) half start) ⌝ }
-    ensures { λ r. ⌜ r ≡ runEnd (now (word .entry)) half start ⌝ }
+pub(crate) fn run_end(word: &[u8], marks: &[u8], period: usize, start: usize) -> usize
+    requires { ⌜ now marks ≡ startMarks (now word) period ⌝ }
+    requires { ⌜ (1 ≤ period) × (1 ≤ start) × (start ≤ length (now marks)) ⌝ }
+    requires { ⌜ T (isSquare (now word) period start) ⌝ }
+    ensures { λ r. ⌜ r ≡ runEnd (now (word .entry)) period start ⌝ }
 {
     let mut last = start;
-    while last + half <= marks.len() {
-        if marks[last + half - 1] == 0 {
-            return last - 1 + 2 * half;
-        }
-        last += half;
+    while last + period <= marks.len() && marks[last + period - 1] == 1 {
+        last += period;
     }
-    last - 1 + 2 * half
+    last - 1 + 2 * period
 }
 
 // The counts of the letters in a stretch on one side of a place.
@@ -64,20 +61,24 @@ fn letters_beside(word: &[u8], before: bool, at: usize) -> usize
 pub(crate) fn hand(
     word: &[u8],
     table: &[[u8; LETTERS]; ROWS],
-    half: usize,
+    period: usize,
     start: usize,
     before: bool,
     at: usize,
 ) -> usize
     requires { ⌜ Counted (now word) (now table) ⌝ }
-    requires { ⌜ (1 ≤ half) × (1 ≤ start) × (start + half ≤ length (now word) + 1) ⌝ }
+    requires { ⌜ (1 ≤ period) × (1 ≤ start) × (start + period ≤ length (now word) + 1) ⌝ }
     requires { ⌜ at ≤ length (now word) ⌝ }
-    ensures { λ r. ⌜ r ≡ handOf (now (word .entry)) half start before at ⌝ }
+    ensures { λ r. ⌜ r ≡ handOf (now (word .entry)) period start before at ⌝ }
 {
-    let block = between(table, start - 1, start - 1 + half);
+    let block = between(table, start - 1, start - 1 + period);
     let letters = letters_beside(word, before, at);
     let mut hand = 0;
-    let mut past = if letters < half { letters + 1 } else { half };
+    let mut past = if letters < period {
+        letters + 1
+    } else {
+        period
+    };
     while hand + 1 < past {
         let middle = (hand + past) / 2;
         if exceeds(count_beside(word, table, before, at, middle), block) {

@@ -11,7 +11,7 @@ use abelian::Wrote;
 use output::write_runs;
 use squares::CANDIDATES;
 use squares::marks::mark_squares;
-use starts::count_runs;
+use starts::count_words;
 ghost use mathlib.Core.Path.{_≡_};
 ghost use mathlib.Core.List.{List};
 ghost use Prim.Native.Nat.{ℕ, _≤_};
@@ -25,7 +25,7 @@ ghost use Rattle.abelian.specs.Calls.{runListing};
 // candidates of two blocks in a row are starts, and a run takes two places. No word is known to need as many.
 pub const PLACES: usize = 17682;
 
-// That number, with the promise that it is enough.
+// That number, with the promise that it is enough; for C and for Rust it stands as LUFF_BOUND_RUNS and BOUND_RUNS.
 pub fn places() -> usize
     ensures { λ r. ⌜ ((w : List ℕ) → length w ≤ longest → length (runWords w) ≤ r) ⌝ }
 {
@@ -42,7 +42,7 @@ pub fn list_runs(word: &[u8], out: &mut [u32]) -> Wrote
     let table = words::prefix_counts(word);
     let mut marks = [0u8; CANDIDATES];
     mark_squares(word, &table, &mut marks);
-    let needed = count_runs(word, &marks);
+    let needed = count_words(word, &marks);
     if needed > out.len() {
         return Wrote::Refused(Refusal::SliceTooShort(needed));
     }

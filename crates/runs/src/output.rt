@@ -21,7 +21,7 @@ const RUN: u32 = 5 * 268435456;
 
 const HANDS: u32 = 6 * 268435456;
 
-// What one of the upper part counts in a run's first word; in its second, what one of the end and one of the left hand count.
+// The factor of the block's length in a run's first word; in its second, those of the end and of the left hand.
 const UPPER: u32 = 16384;
 
 const END: u32 = 65536;
@@ -29,12 +29,12 @@ const END: u32 = 65536;
 const LEFT: u32 = 256;
 
 // A run's first word: the length of a block above, and the start below.
-fn run_word(half: usize, start: usize) -> u32
-    requires { ⌜ half ≤ longest ⌝ }
+fn run_word(period: usize, start: usize) -> u32
+    requires { ⌜ period ≤ longest ⌝ }
     requires { ⌜ start ≤ longest ⌝ }
-    ensures { λ r. ⌜ r ≡ runWord half start ⌝ }
+    ensures { λ r. ⌜ r ≡ runWord period start ⌝ }
 {
-    RUN + (half as u32) * UPPER + start as u32
+    RUN + (period as u32) * UPPER + start as u32
 }
 
 // A run's second word: where its whole blocks end, and its hands.
@@ -52,45 +52,45 @@ fn write_run(
     word: &[u8],
     table: &[[u8; LETTERS]; ROWS],
     marks: &[u8],
-    half: usize,
+    period: usize,
     start: usize,
     out: &mut [u32],
 )
     requires { ⌜ Counted (now word) (now table) ⌝ }
-    requires { ⌜ now marks ≡ startMarks (now word) half ⌝ }
-    requires { ⌜ (1 ≤ half) × (1 ≤ start) × (start ≤ length (now marks)) ⌝ }
-    requires { ⌜ T (isSquare (now word) half start) ⌝ }
+    requires { ⌜ now marks ≡ startMarks (now word) period ⌝ }
+    requires { ⌜ (1 ≤ period) × (1 ≤ start) × (start ≤ length (now marks)) ⌝ }
+    requires { ⌜ T (isSquare (now word) period start) ⌝ }
     requires { ⌜ 2 ≤ length (now out) ⌝ }
-    ensures { λ _. ⌜ now (out .exit) ≡ fill (wordsOfRun (runAt (now (word .entry)) half start)) (now (out .entry)) ⌝ }
+    ensures { λ _. ⌜ now (out .exit) ≡ fill (wordsOfRun (runAt (now (word .entry)) period start)) (now (out .entry)) ⌝ }
 {
-    let end = run_end(word, marks, half, start);
-    let left = hand(word, table, half, start, true, start - 1);
-    let right = hand(word, table, half, start, false, end);
-    out[0] = run_word(half, start);
+    let end = run_end(word, marks, period, start);
+    let left = hand(word, table, period, start, true, start - 1);
+    let right = hand(word, table, period, start, false, end);
+    out[0] = run_word(period, start);
     out[1] = hands_word(end, left, right);
 }
 
 // Writes the words of the runs of one block length into the first places of the slice, and returns how many they are.
-fn write_starts(
+fn write_row(
     word: &[u8],
     table: &[[u8; LETTERS]; ROWS],
     marks: &[u8],
-    half: usize,
+    period: usize,
     out: &mut [u32],
 ) -> usize
     requires { ⌜ Counted (now word) (now table) ⌝ }
-    requires { ⌜ now marks ≡ startMarks (now word) half ⌝ }
-    requires { ⌜ 1 ≤ half ⌝ }
-    requires { ⌜ length (rowWords (now word) half) ≤ length (now out) ⌝ }
-    ensures { λ r. ⌜ r ≡ length (rowWords (now (word .entry)) half) ⌝ }
-    ensures { λ _. ⌜ now (out .exit) ≡ fill (rowWords (now (word .entry)) half) (now (out .entry)) ⌝ }
+    requires { ⌜ now marks ≡ startMarks (now word) period ⌝ }
+    requires { ⌜ 1 ≤ period ⌝ }
+    requires { ⌜ length (rowWords (now word) period) ≤ length (now out) ⌝ }
+    ensures { λ r. ⌜ r ≡ length (rowWords (now (word .entry)) period) ⌝ }
+    ensures { λ _. ⌜ now (out .exit) ≡ fill (rowWords (now (word .entry)) period) (now (out .entry)) ⌝ }
 {
     let mut at = 0;
     let mut start = 0;
     while start < marks.len() {
         start += 1;
-        if starts_run(word, marks, half, start) {
-            write_run(word, table, marks, half, start, &mut out[at..]);
+        if starts_run(word, marks, period, start) {
+            write_run(word, table, marks, period, start, &mut out[at..]);
             at += 2;
         }
     }
@@ -106,11 +106,11 @@ pub(crate) fn write_runs(word: &[u8], table: &[[u8; LETTERS]; ROWS], marks: &[u8
 {
     let mut from = 0;
     let mut at = 0;
-    let mut half = 1;
-    while 2 * half <= word.len() {
-        let to = from + (word.len() + 1 - 2 * half);
-        at += write_starts(word, table, &marks[from..to], half, &mut out[at..]);
+    let mut period = 1;
+    while 2 * period <= word.len() {
+        let to = from + (word.len() + 1 - 2 * period);
+        at += write_row(word, table, &marks[from..to], period, &mut out[at..]);
         from = to;
-        half += 1;
+        period += 1;
     }
 }

@@ -78,7 +78,7 @@ module _ (w : List ℕ) where
       rw (map-upFrom-at (λ (k : ℕ). one (isSquare w q k)) 1 (suc (length w) - 2 * q) (i - 1) 0 (omega arith), e)
 
   -- so it says whether it is a square's
-  start-marked : (q i : ℕ) → 1 ≤ i → i ≤ suc (length w) - 2 * q → eqb (getD (startMarks w q) (i - 1) 0) 1 ≡ isSquare w q i
+  pub start-marked : (q i : ℕ) → 1 ≤ i → i ≤ suc (length w) - 2 * q → eqb (getD (startMarks w q) (i - 1) 0) 1 ≡ isSquare w q i
   start-marked q i l u = rw (start-mark q i l u) (go (isSquare w q i))
     where
       go : (b : Bool) → eqb (one b) 1 ≡ b

@@ -74,10 +74,10 @@ module _ (w : List ℕ) where
       each-mem (halfWords w) (upFrom 1 (length w)) (upFrom-mem 1 (length w) q (s .half) (omega (arith, s .within, s .start)))
       (Memᴰ·map (squareWord q) (square-start w q i s))
 
-  -- the start of a square is small where the word is
-  start-small : {q i : ℕ} → length w ≤ longest → AbelianSquare w q i → i < 2 ^ 14
-  unfolding longest
-  start-small l s = omega (arith, s .within, s .half)
+  -- a start is small where the word is
+  start-small : length w ≤ longest → (q i : ℕ) → List·Memᴰ i (squareStarts w q) → i < 2 ^ 14
+  unfolding squareStarts longest
+  start-small short q i m = omega (arith, mem-upFrom 1 (suc (length w) - 2 * q) (mem-keep (isSquare w q) (upFrom 1 (suc (length w) - 2 * q)) m .0))
 
   -- a half length and a start are in the list exactly where they are a square
   pub words-definition : (q i : ℕ) → length w ≤ longest → i < 2 ^ 14 → List·Memᴰ (squareWord q i) (squareWords w) ↔ AbelianSquare w q i
@@ -86,7 +86,7 @@ module _ (w : List ℕ) where
       from : List·Memᴰ (squareWord q i) (squareWords w) → AbelianSquare w q i
       from m =
           let r : (p : ℕ) × (j : ℕ) × AbelianSquare w p j × (squareWord p j ≡ squareWord q i) = word-square m in
-          let e : (r .0 ≡ q) × (r .1 ≡ i) = squareWord-half (r .0) (r .1) q i (start-small l (r .2)) b (r .3) in
+          let e : (r .0 ≡ q) × (r .1 ≡ i) = squareWord-half (r .0) (r .1) q i (start-small l (r .0) (r .1) (square-start w (r .0) (r .1) (r .2))) b (r .3) in
           subst (λ (j : ℕ). AbelianSquare w q j) (e .1) (subst (λ (p : ℕ). AbelianSquare w p (r .1)) (e .0) (r .2))
 
 -- ---- order
@@ -107,11 +107,6 @@ module _ (w : List ℕ) where
   unfolding squareWord outputWord
   half-first q i r j l b = omega arith
 
-  -- a start is small where the word is
-  member-small : length w ≤ longest → (q i : ℕ) → List·Memᴰ i (squareStarts w q) → i < 2 ^ 14
-  unfolding squareStarts longest
-  member-small short q i m = omega (arith, mem-upFrom 1 (suc (length w) - 2 * q) (mem-keep (isSquare w q) (upFrom 1 (suc (length w) - 2 * q)) m .0))
-
   -- the words of all squares rise: each square is listed once, by half length and then by start
   pub words-increasing : length w ≤ longest → Increasing (squareWords w)
   unfolding squareWords
@@ -120,5 +115,5 @@ module _ (w : List ℕ) where
       (λ q r l x y m n.
       let i : (i : ℕ) × List·Memᴰ i (squareStarts w q) × (squareWord q i ≡ x) = Memᴰ·of-map (squareWord q) (squareStarts w q) m in
       let j : (j : ℕ) × List·Memᴰ j (squareStarts w r) × (squareWord r j ≡ y) = Memᴰ·of-map (squareWord r) (squareStarts w r) n in
-      omega (arith, i .2, j .2, half-first q (i .0) r (j .0) l (member-small short q (i .0) (i .1))))
+      omega (arith, i .2, j .2, half-first q (i .0) r (j .0) l (start-small w short q (i .0) (i .1))))
       (upFrom 1 (length w)) (ordered-upFrom 1 (length w))

@@ -35,8 +35,8 @@ pub enum Finding {
 }
 
 impl Finding {
-    /// What the word says, or none where its kind is not one of these. A run is two words, of which neither says it alone: they are none,
-    /// and [`Run::of`](crate::Run::of) reads both.
+    /// What the word says, or none where its kind is not one of these. A run is two words: each of them alone gives none, and
+    /// [`Run::of`](crate::Run::of) reads both.
     pub fn of(word: u32) -> Option<Finding> {
         let upper = (word >> 14 & 0x3fff) as usize;
         let lower = (word & 0x3fff) as usize;

@@ -69,15 +69,15 @@ mark-squares-requires c κs =
     let told = c .before .before .before in
     (counted (c .before .before), candidates-bound (w told) (accepted-length (w told) (accepted told)))
 
-slice-aggregate-count-runs : tie.Need-slice-aggregate-count-runs
-slice-aggregate-count-runs c = search needs
+slice-aggregate-count-words : tie.Need-slice-aggregate-count-words
+slice-aggregate-count-words c = search needs
 
 -- the marks are in the first places
 marked : (c : tie.After-mark-squares) → take (length (squareMarks (w (c .before .before .before .before)))) (c .mark-squares .last .1 .1 .0) ≡ squareMarks (w (c .before .before .before .before))
 marked c = ap (take (length (squareMarks (w (c .before .before .before .before))))) (c .mark-squares .ensures .1) ∙ take-fill (squareMarks (w (c .before .before .before .before))) _
 
-count-runs-requires : tie.Need-count-runs-requires
-count-runs-requires c κs =
+count-words-requires : tie.Need-count-words-requires
+count-words-requires c κs =
     let told = c .before .before .before .before .before .before in
     (accepted-length (w told) (accepted told), marked (c .before .before))
 
@@ -85,7 +85,7 @@ returns-2 : tie.Need-returns-2
 unfolding runListing
 returns-2 c =
     let told = c .before .before .before .before .before .before .before .before in
-    let call = c .before .count-runs in
+    let call = c .before .count-words in
     counted-short (w told) (out told) (runWords (w told)) 0 0 0 (accepted told) (call .result) (call .ensures) (c .if1 .taken)
 
 slice-aggregate-write-runs : tie.Need-slice-aggregate-write-runs
@@ -96,7 +96,7 @@ write-runs-requires c κs =
     let counting = c .before .before .before .before in
     let marking = counting .before .before .before in (
       counted (marking .before .before .before),
-      (marked marking, omega (arith, counting .count-runs .ensures, c .before .before .before .if1 .left)),
+      (marked marking, omega (arith, counting .count-words .ensures, c .before .before .before .if1 .left)),
     )
 
 same-length : tie.Need-same-length
@@ -107,8 +107,8 @@ unfolding runListing
 returns-3 c =
     let counting = c .before .before .before .before .before .before .before in
     let told = counting .before .before .before .before .before .before .before in
-    ap (writing (counting .count-runs .result) 0 0 0) (c .before .before .write-runs .ensures)
-    ∙ counted-written (w told) (out told) (runWords (w told)) 0 0 0 (accepted told) (counting .count-runs .result) (counting .count-runs .ensures)
+    ap (writing (counting .count-words .result) 0 0 0) (c .before .before .write-runs .ensures)
+    ∙ counted-written (w told) (out told) (runWords (w told)) 0 0 0 (accepted told) (counting .count-words .result) (counting .count-words .ensures)
     (c .before .before .before .before .before .before .if1 .left)
 
 pub list-runs-spec : {M : Type 1} → statement M
@@ -122,8 +122,8 @@ list-runs-spec =
     prefix-counts-requires
     slice-aggregate-mark-squares
     mark-squares-requires
-    slice-aggregate-count-runs
-    count-runs-requires
+    slice-aggregate-count-words
+    count-words-requires
     returns-2
     slice-aggregate-write-runs
     write-runs-requires

@@ -1,10 +1,10 @@
 //! Document 003's algorithm for Abelian runs (Theorem 10), in time n²: all squares by sliding windows, kept in an array L; maximal
-//! repetitions by going through its rows and marking their squares; and the hands of each from the last hand at the same center. What its
-//! hands are contained in is taken by request C-11's words, as its text has some ranges one letter too long.
+//! repetitions by going through its rows and marking their squares; and the hands of each from the last hand at the same center. What a
+//! hand is contained in is taken by C-11's words, since the paper has some ranges one letter too long.
 use super::squares::slide;
 use super::{index, word_refusal, write, Row};
 use crate::calls::Answer;
-use luffbutton::{LETTERS, LONGEST};
+use luffbutton::{BOUND_RUNS, LETTERS, LONGEST};
 
 /// An entry of the array L.
 #[derive(Clone, Copy, PartialEq, Eq)]
@@ -26,7 +26,7 @@ pub fn list_runs_003(word: &[u8], out: &mut [u32]) -> Answer {
     let n = word.len();
     let reversed: Vec<u8> = word.iter().rev().copied().collect();
     let (mut left_hands, mut right_hands) = (Hands::before(word), Hands::before(&reversed));
-    let mut found = Vec::new();
+    let mut found = Vec::with_capacity(BOUND_RUNS);
     for (d, row) in (1..).zip(&mut squares(word)) {
         for first in d..=n - d {
             if row[first] == Entry::Square {

@@ -178,7 +178,7 @@ fn slices_of_every_length() {
     }
 }
 
-/// Slices around the needed length for the longest lists there are.
+/// Slices around the needed length for the lists of 240 equal letters, which are the longest but for runs.
 #[test]
 fn slices_for_the_longest_lists() {
     let word = [FIRST_LETTER; LONGEST];

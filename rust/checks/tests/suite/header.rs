@@ -9,6 +9,9 @@ use std::mem::{offset_of, size_of};
 
 const HEADER: &str = include_str!("../../../../include/luffbutton.h");
 
+/// The root file of the crate runs.
+const RUNS: &str = include_str!("../../../../crates/runs/src/lib.rt");
+
 /// Where the Rust crate declares the functions.
 const NUMBERS: &str = include_str!("../../../luffbutton/src/numbers.rs");
 
@@ -150,6 +153,8 @@ fn sizes() {
     assert_eq!(number("LUFF_LONGEST"), LONGEST);
     assert_eq!(number("LUFF_BOARD"), BOARD);
     assert_eq!(number("LUFF_BOUND_RUNS"), BOUND_RUNS);
+    // What is proved to be enough is the number of the crate runs.
+    assert!(RUNS.contains(&format!("\npub const PLACES: usize = {BOUND_RUNS};\n")));
     assert_eq!(number("LUFF_CALL_TAKE_BACK"), usize::from(TAKE_BACK));
     assert_eq!(number("LUFF_CALL_CLEAR"), usize::from(CLEAR));
 }
@@ -159,17 +164,15 @@ fn sizes() {
 fn stacks() {
     assert_eq!(number("LUFF_STACK_REPORT"), 48 * 1024);
     assert_eq!(number("LUFF_STACK_TRACKER"), 12 * 1024);
-    let calls = [
-        "LUFF_STACK_JUDGE",
-        "LUFF_STACK_LIST_PLAIN",
-        "LUFF_STACK_LIST_SKIPPING",
-        "LUFF_STACK_LIST_FULL",
-        "LUFF_STACK_LIST_FULL_SCALED",
-        "LUFF_STACK_LIST_SQUARES",
-        "LUFF_STACK_LIST_RUNS",
-        "LUFF_STACK_FIND_COVER",
-    ];
-    for name in calls {
+    let limits: Vec<&str> = HEADER
+        .lines()
+        .filter_map(|line| line.strip_prefix("#define "))
+        .filter_map(|line| line.split_once(' '))
+        .filter(|(name, value)| name.starts_with("LUFF_STACK_") && !value.starts_with("LUFF_"))
+        .map(|(name, _)| name)
+        .collect();
+    assert_eq!(limits.len(), 10);
+    for name in limits {
         assert!(number(name) <= 48 * 1024, "{name}");
     }
 }

@@ -18,12 +18,12 @@ use Rattle.runs.proofs.hands.hand.Statement.{statement}
 use Rattle.runs.proofs.hands.hand.Tie as tie
 
 abbrev Inv-loop : tie.InvT-loop
-Inv-loop word table half start before at block letters hand₀ past₀ hand past = Halving word half start before at hand past
+Inv-loop word table period start before at block letters hand₀ past₀ hand past = Halving word period start before at hand past
 
 abbrev μ-loop : tie.MeasureT-loop
-μ-loop word table half start before at block letters hand₀ past₀ hand past = past - hand
+μ-loop word table period start before at block letters hand₀ past₀ hand past = past - hand
 
-placed : (c : tie.Start Inv-loop μ-loop) → Placed (c .args .word .now) (c .args .half) (c .args .start) (c .args .at)
+placed : (c : tie.Start Inv-loop μ-loop) → Placed (c .args .word .now) (c .args .period) (c .args .start) (c .args .at)
 placed c = record { letters = c .pre .0 .all; start = c .pre .1 .0 .1; whole = c .pre .1 .0 .2; inside = c .pre .1 .1 }
 
 sub-between : tie.Need-sub-between Inv-loop μ-loop
@@ -51,7 +51,7 @@ add-past c = search needs
 loop-holds : tie.Need-loop-holds Inv-loop μ-loop
 loop-holds c =
     let start = c .before .before .before .before in
-    halving-first (start .args .word .now) (start .args .half) (start .args .start) (start .args .before) (start .args .at) (placed start) (c .if1 .past) (start .pre .1 .0 .0)
+    halving-first (start .args .word .now) (start .args .period) (start .args .start) (start .args .before) (start .args .at) (placed start) (c .if1 .past) (start .pre .1 .0 .0)
     (⊎-elim (λ t. omega (arith, t .0 .taken, t .1, c .before .letters-beside .ensures)) (λ t. omega (arith, t .0 .left, t .1, c .before .letters-beside .ensures)) (c .if1 .came))
 
 add-loop : tie.Need-add-loop Inv-loop μ-loop
@@ -78,7 +78,7 @@ module _ (c : tie.After-exceeds Inv-loop μ-loop) where
   w = start .args .word .now
 
   abbrev d : ℕ
-  d = start .args .half
+  d = start .args .period
 
   abbrev i : ℕ
   i = start .args .start
@@ -130,7 +130,7 @@ loop-again-2 c = up (c .before) (passes (fits (c .before)) (not-false (fits (c .
 returns : tie.Need-returns Inv-loop μ-loop
 returns c =
     let start = c .before .before .before .before .before .before in
-    halving-done (start .args .word .now) (start .args .half) (start .args .start) (start .args .before) (start .args .at) (placed start) (c .before .loop .hand) (c .before .loop .past) (c .before .loop .inv) (omega arith)
+    halving-done (start .args .word .now) (start .args .period) (start .args .start) (start .args .before) (start .args .at) (placed start) (c .before .loop .hand) (c .before .loop .past) (c .before .loop .inv) (omega arith)
 
 pub hand-spec : {M : Type 1} → statement M
 hand-spec =

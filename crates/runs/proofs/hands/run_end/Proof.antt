@@ -1,18 +1,22 @@
 -- `runs::hands::run_end` meets its contract. The invariant of its loop: the squares from the start to `last` stand one block behind the other. The measure
 -- is the candidates that are left. Assumes nothing.
-use mathlib.Core.Path.{_≡_, ap, _∙_}
+use mathlib.Core.Path.{_≡_, sym, ap, _∙_}
+use mathlib.Core.Logic.{⊎-elim}
+use mathlib.Core.Bool.{true, false}
 use mathlib.Core.List.{List}
 use Prim.Native.Nat.{ℕ, suc, _+_, _-_, _*_, _≤_}
 use native.Mathlib.Omega.{arith}
 use lib.ListN.{length}
 use borrow.Author.Needs.{needs}
+use Rattle.abelian.specs.Squares.{isSquare}
+use Rattle.abelian.proofs.Tests.{passes, fails}
 use Rattle.squares.proofs.Candidates.{length-startMarks}
-use Rattle.runs.proofs.Marks.{marked-square, not-marked}
+use Rattle.runs.proofs.Marks.{mark-told}
 use Rattle.runs.proofs.Chains.{Chain, chain-one, chain-more, chain-end}
 use Rattle.runs.proofs.hands.run_end.Statement.{statement}
 use Rattle.runs.proofs.hands.run_end.Tie as tie
 
--- the squares of half length d from i to `last` are a chain, and `last` is a candidate
+-- the squares of block length d from i to `last` are a chain, and `last` is a candidate
 record Following (w marks : List ℕ) (d i last : ℕ) : Type 0 where
   within : last ≤ length marks
   later : i ≤ last
@@ -20,15 +24,15 @@ record Following (w marks : List ℕ) (d i last : ℕ) : Type 0 where
   chain : Chain w d i last
 
 abbrev Inv-loop : tie.InvT-loop
-Inv-loop word marks half start last₀ last = Following word marks half start last
+Inv-loop word marks period start last₀ last = Following word marks period start last
 
 abbrev μ-loop : tie.MeasureT-loop
-μ-loop word marks half start last₀ last = length marks - last
+μ-loop word marks period start last₀ last = length marks - last
 
 loop-holds : tie.Need-loop-holds Inv-loop μ-loop
 loop-holds c =
     let w = c .args .word .now in
-    let d = c .args .half in
+    let d = c .args .period in
     let size : length (c .args .marks .now) ≡ suc (length w) - 2 * d = ap length (c .pre .0) ∙ length-startMarks w d in
     record {
       within = c .pre .1 .0 .2;
@@ -49,6 +53,28 @@ sub-if1 c = search needs
 shared-slice-read-if1 : tie.Need-shared-slice-read-if1 Inv-loop μ-loop
 shared-slice-read-if1 c = search needs
 
+add-last : tie.Need-add-last Inv-loop μ-loop
+add-last c = search needs
+
+loop-less : tie.Need-loop-less Inv-loop μ-loop
+loop-less c = search needs
+
+loop-again : tie.Need-loop-again Inv-loop μ-loop
+loop-again c =
+    let at-loop = c .before .before .before in
+    let start = at-loop .before in
+    let w = start .args .word .now in
+    let d = start .args .period in
+    let last = at-loop .loop .last in
+    let h = at-loop .loop .inv in
+    let told : isSquare w d (last + d) ≡ true = sym (mark-told w (start .args .marks .now) d (last + d) (start .pre .0) (omega arith) (omega arith)) ∙ c .if1 .taken in
+    record {
+      within = omega arith;
+      later = omega (arith, h .later);
+      size = h .size;
+      chain = chain-more w d (start .args .start) (start .pre .1 .0 .1) last (h .chain) (omega (arith, h .size)) (passes (isSquare w d (last + d)) told);
+    }
+
 sub-result : tie.Need-sub-result Inv-loop μ-loop
 sub-result c = search needs
 
@@ -60,49 +86,18 @@ add-result c = search needs
 
 returns : tie.Need-returns Inv-loop μ-loop
 returns c =
-    let at-loop = c .before .before .before in
-    let start = at-loop .before in
-    let last = at-loop .loop .last in
-    let h = at-loop .loop .inv in
-    chain-end (start .args .word .now) (start .args .half) (start .args .start) (start .pre .1 .0 .1) last (h .chain) (start .pre .1 .0 .0)
-    (λ l. not-marked (start .args .word .now) (start .args .marks .now) (start .args .half) (last + start .args .half) (start .pre .0) (omega arith) (omega arith) (c .if1 .taken))
-
-add-last : tie.Need-add-last Inv-loop μ-loop
-add-last c = search needs
-
-loop-less : tie.Need-loop-less Inv-loop μ-loop
-loop-less c = search needs
-
-loop-again : tie.Need-loop-again Inv-loop μ-loop
-loop-again c =
-    let at-loop = c .before .before .before in
-    let start = at-loop .before in
-    let last = at-loop .loop .last in
-    let h = at-loop .loop .inv in
-    record {
-      within = omega arith;
-      later = omega (arith, h .later);
-      size = h .size;
-      chain =
-          chain-more (start .args .word .now) (start .args .half) (start .args .start) (start .pre .1 .0 .1) last (h .chain) (omega (arith, h .size))
-          (marked-square (start .args .word .now) (start .args .marks .now) (start .args .half) (last + start .args .half) (start .pre .0) (omega arith) (omega arith) (c .if1 .left));
-    }
-
-sub-result-2 : tie.Need-sub-result-2 Inv-loop μ-loop
-sub-result-2 c = search needs
-
-mul-result-2 : tie.Need-mul-result-2 Inv-loop μ-loop
-mul-result-2 c = search needs
-
-add-result-2 : tie.Need-add-result-2 Inv-loop μ-loop
-add-result-2 c = search needs
-
-returns-2 : tie.Need-returns-2 Inv-loop μ-loop
-returns-2 c =
     let start = c .before .before in
+    let w = start .args .word .now in
+    let d = start .args .period in
+    let last = c .before .loop .last in
     let h = c .before .loop .inv in
-    chain-end (start .args .word .now) (start .args .half) (start .args .start) (start .pre .1 .0 .1) (c .before .loop .last) (h .chain) (start .pre .1 .0 .0)
-    (λ l t. omega (arith, h .size, c .loop-test .left))
+    chain-end w d (start .args .start) (start .pre .1 .0 .1) last (h .chain) (start .pre .1 .0 .0) (λ l t.
+    ⊎-elim
+    (λ e.
+    let told : isSquare w d (last + d) ≡ false = sym (mark-told w (start .args .marks .now) d (last + d) (start .pre .0) (omega arith) (e .0 .taken)) ∙ e .2 .left in
+    fails (isSquare w d (last + d)) told t)
+    (λ e. omega (arith, h .size, e .left))
+    (c .loop-test .came))
 
 pub run-end-spec : {M : Type 1} → statement M
 run-end-spec =
@@ -115,14 +110,10 @@ run-end-spec =
     add-if1
     sub-if1
     shared-slice-read-if1
-    sub-result
-    mul-result
-    add-result
-    returns
     add-last
     loop-less
     loop-again
-    sub-result-2
-    mul-result-2
-    add-result-2
-    returns-2)
+    sub-result
+    mul-result
+    add-result
+    returns)

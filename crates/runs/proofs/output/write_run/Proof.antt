@@ -35,14 +35,14 @@ two-places (x ∷ []) a b h = absurd (omega arith)
 two-places (x ∷ y ∷ out) a b h = refl
 
 -- the square lies in the word
-inside : (c : tie.Start) → c .args .start + 2 * c .args .half ≤ length (c .args .word .now) + 1
-inside c = omega (arith, c .pre .1 .1 .0 .2, c .pre .1 .1 .0 .1, ap length (c .pre .1 .0), length-startMarks (c .args .word .now) (c .args .half))
+inside : (c : tie.Start) → c .args .start + 2 * c .args .period ≤ length (c .args .word .now) + 1
+inside c = omega (arith, c .pre .1 .1 .0 .2, c .pre .1 .1 .0 .1, ap length (c .pre .1 .0), length-startMarks (c .args .word .now) (c .args .period))
 
 -- so do the blocks
 ends-inside : (c : tie.After-run-end) → c .run-end .result ≤ length (c .before .before .before .before .args .word .now)
 ends-inside c =
     let start = c .before .before .before .before in
-    omega (arith, c .run-end .ensures, end-within (start .args .word .now) (start .args .half) (start .args .start) (omega (arith, inside start)))
+    omega (arith, c .run-end .ensures, end-within (start .args .word .now) (start .args .period) (start .args .start) (omega (arith, inside start)))
 
 run-end-requires : tie.Need-run-end-requires
 run-end-requires c κs = search needs
@@ -74,7 +74,7 @@ hands-small c =
     let ended = c .before .before in
     let start = ended .before .before .before .before in
     let w = start .args .word .now in
-    let d = start .args .half in
+    let d = start .args .period in
     let i = start .args .start in (
       omega (arith, c .before .hand .ensures, hand-le w d i true (i - 1), inside start, start .pre .0 .short),
       omega (arith, c .hand2 .ensures, hand-le w d i false (ended .run-end .result), start .pre .0 .short),
@@ -97,9 +97,9 @@ returns c =
     let ended = c .before .before .before .before in
     let start = ended .before .before .before .before in
     ap₂ (λ (a b : ℕ). set (set (start .args .out .now) 0 a) 1 b) (c .before .run-word .ensures) (c .hands-word .ensures)
-    ∙ two-places (start .args .out .now) (runWord (start .args .half) (start .args .start)) (handsWord (ended .run-end .result) (c .before .before .before .hand .result) (c .before .before .hand2 .result)) (start .pre .1 .1 .1 .1)
+    ∙ two-places (start .args .out .now) (runWord (start .args .period) (start .args .start)) (handsWord (ended .run-end .result) (c .before .before .before .hand .result) (c .before .before .hand2 .result)) (start .pre .1 .1 .1 .1)
     ∙ ap (λ (ws : List ℕ). fill ws (start .args .out .now))
-    (numbers-of-run (start .args .word .now) (start .args .half) (start .args .start) (ended .run-end .ensures) (c .before .before .before .hand .ensures) (c .before .before .hand2 .ensures))
+    (numbers-of-run (start .args .word .now) (start .args .period) (start .args .start) (ended .run-end .ensures) (c .before .before .before .hand .ensures) (c .before .before .hand2 .ensures))
 
 pub write-run-spec : {M : Type 1} → statement M
 write-run-spec =

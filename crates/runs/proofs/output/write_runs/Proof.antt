@@ -1,5 +1,5 @@
--- `runs::output::write_runs` meets its contract. The invariant of its loop: the marks of the half lengths below `half` are read, and the words of their runs
--- written. The measure is the half lengths that are left. Assumes nothing.
+-- `runs::output::write_runs` meets its contract. The invariant of its loop: the marks of the block lengths below `period` are read, and the words of their runs
+-- written. The measure is the block lengths that are left. Assumes nothing.
 use mathlib.Core.Path.{_≡_, refl, sym, ap, _∙_}
 use mathlib.Core.List.{List, _++_}
 use Prim.Native.Nat.{ℕ, suc, _+_, _-_, _*_, _≤_}
@@ -18,7 +18,7 @@ use Rattle.runs.proofs.Bound.{places-enough, bound-number}
 use Rattle.runs.proofs.output.write_runs.Statement.{statement}
 use Rattle.runs.proofs.output.write_runs.Tie as tie
 
--- the marks of the half lengths below q are read, and the words of their runs written
+-- the marks of the block lengths below q are read, and the words of their runs written
 record Writing (w before out : List ℕ) (from at q : ℕ) : Type 0 where
   positive : 1 ≤ q
   within : 2 * (q - 1) ≤ length w
@@ -28,10 +28,10 @@ record Writing (w before out : List ℕ) (from at q : ℕ) : Type 0 where
   written : out ≡ fill (rowsBelow w q) before
 
 abbrev Inv-loop : tie.InvT-loop
-Inv-loop word table marks out₀ from₀ at₀ half₀ out from at half = Writing word out₀ out from at half
+Inv-loop word table marks out₀ from₀ at₀ period₀ out from at period = Writing word out₀ out from at period
 
 abbrev μ-loop : tie.MeasureT-loop
-μ-loop word table marks out₀ from₀ at₀ half₀ out from at half = length word + 1 - half
+μ-loop word table marks out₀ from₀ at₀ period₀ out from at period = length word + 1 - period
 
 -- what is known in the loop
 module _ (c : tie.In-loop Inv-loop μ-loop) where
@@ -45,7 +45,7 @@ module _ (c : tie.In-loop Inv-loop μ-loop) where
   marks = start .args .marks .now
 
   abbrev q : ℕ
-  q = c .before .loop .half
+  q = c .before .loop .period
 
   abbrev from : ℕ
   from = c .before .loop .from
@@ -56,7 +56,7 @@ module _ (c : tie.In-loop Inv-loop μ-loop) where
   abbrev inv : Writing w (start .args .out .now) (c .before .loop .out) from at q
   inv = c .before .loop .inv
 
-  -- the marks of this half length are among those of the slice
+  -- the marks of this block length are among those of the slice
   marks-left : from + (suc (length w) - 2 * q) ≤ length marks
   marks-left = marks-within w q (inv .positive) (c .loop-test .taken) marks (start .pre .1 .0) from (inv .read)
 
@@ -90,29 +90,29 @@ sub-to c = search needs
 add-to-2 : tie.Need-add-to-2 Inv-loop μ-loop
 add-to-2 c = omega (arith, marks-left c)
 
-sub-write-starts : tie.Need-sub-write-starts Inv-loop μ-loop
-sub-write-starts c = search needs
+sub-write-row : tie.Need-sub-write-row Inv-loop μ-loop
+sub-write-row c = search needs
 
-part-write-starts-start : tie.Need-part-write-starts-start Inv-loop μ-loop
-part-write-starts-start c = search needs
+part-write-row-start : tie.Need-part-write-row-start Inv-loop μ-loop
+part-write-row-start c = search needs
 
-part-write-starts-end : tie.Need-part-write-starts-end Inv-loop μ-loop
-part-write-starts-end c = omega (arith, marks-left c)
+part-write-row-end : tie.Need-part-write-row-end Inv-loop μ-loop
+part-write-row-end c = omega (arith, marks-left c)
 
-mul-write-starts : tie.Need-mul-write-starts Inv-loop μ-loop
-mul-write-starts c = omega (arith, few (c .before))
+mul-write-row : tie.Need-mul-write-row Inv-loop μ-loop
+mul-write-row c = omega (arith, few (c .before))
 
-sub-write-starts-2 : tie.Need-sub-write-starts-2 Inv-loop μ-loop
-sub-write-starts-2 c = omega (arith, places-left (c .before))
+sub-write-row-2 : tie.Need-sub-write-row-2 Inv-loop μ-loop
+sub-write-row-2 c = omega (arith, places-left (c .before))
 
-part-write-starts-start-2 : tie.Need-part-write-starts-start-2 Inv-loop μ-loop
-part-write-starts-start-2 c = omega (arith, places-left (c .before))
+part-write-row-start-2 : tie.Need-part-write-row-start-2 Inv-loop μ-loop
+part-write-row-start-2 c = omega (arith, places-left (c .before))
 
-part-write-starts-end-2 : tie.Need-part-write-starts-end-2 Inv-loop μ-loop
-part-write-starts-end-2 c = search needs
+part-write-row-end-2 : tie.Need-part-write-row-end-2 Inv-loop μ-loop
+part-write-row-end-2 c = search needs
 
-write-starts-requires : tie.Need-write-starts-requires Inv-loop μ-loop
-write-starts-requires c κs =
+write-row-requires : tie.Need-write-row-requires Inv-loop μ-loop
+write-row-requires c κs =
     let in-loop = c .before .before in
     let out = in-loop .before .loop .out in (
       start in-loop .pre .0,
@@ -128,11 +128,11 @@ write-starts-requires c κs =
 add-at : tie.Need-add-at Inv-loop μ-loop
 add-at c =
     let in-loop = c .before .before .before .before .before in
-    omega (arith, few in-loop, c .before .before .write-starts .ensures .0)
+    omega (arith, few in-loop, c .before .before .write-row .ensures .0)
 
-add-half : tie.Need-add-half Inv-loop μ-loop
+add-period : tie.Need-add-period Inv-loop μ-loop
 unfolding longest
-add-half c = search needs
+add-period c = search needs
 
 loop-less : tie.Need-loop-less Inv-loop μ-loop
 loop-less c = search needs
@@ -140,23 +140,23 @@ loop-less c = search needs
 loop-again : tie.Need-loop-again Inv-loop μ-loop
 loop-again c =
     let in-loop = c .before .before .before .before .before in
-    let call = c .before .before .write-starts in
+    let call = c .before .before .write-row in
     let word = w in-loop in
-    let half = q in-loop in
+    let period = q in-loop in
     let out = in-loop .before .loop .out in
     let before : List ℕ = start in-loop .args .out .now in
-    let h : Writing word before out (from in-loop) (at in-loop) half = inv in-loop in
-    let more : rowsBelow word (half + 1) ≡ rowsBelow word half ++ rowWords word half = rows-more word half (h .positive) in
-    let reached : at in-loop + call .result ≡ length (rowsBelow word (half + 1)) =
-    omega (arith, h .reached, call .ensures .0, ap length more, length-append (rowsBelow word half) (rowWords word half)) in
-    let written : putMid (at in-loop) (length out - at in-loop) out (call .last .1 .1 .1 .1 .0) ≡ fill (rowsBelow word (half + 1)) before =
-    fill-lent (rowsBelow word half) (rowWords word half) before out (call .last .1 .1 .1 .1 .0) (at in-loop) (h .written) (h .reached) (call .ensures .1)
+    let h : Writing word before out (from in-loop) (at in-loop) period = inv in-loop in
+    let more : rowsBelow word (period + 1) ≡ rowsBelow word period ++ rowWords word period = rows-more word period (h .positive) in
+    let reached : at in-loop + call .result ≡ length (rowsBelow word (period + 1)) =
+    omega (arith, h .reached, call .ensures .0, ap length more, length-append (rowsBelow word period) (rowWords word period)) in
+    let written : putMid (at in-loop) (length out - at in-loop) out (call .last .1 .1 .1 .1 .0) ≡ fill (rowsBelow word (period + 1)) before =
+    fill-lent (rowsBelow word period) (rowWords word period) before out (call .last .1 .1 .1 .1 .0) (at in-loop) (h .written) (h .reached) (call .ensures .1)
     ∙ ap (λ (l : List ℕ). fill l before) (sym more) in
     record {
       positive = omega arith;
       within = omega (arith, in-loop .loop-test .taken);
-      size = ap length written ∙ length-fill (rowsBelow word (half + 1)) before (omega (arith, places-left in-loop, h .size, reached, call .ensures .0));
-      read = omega (arith, h .read, length-marks-more word half (h .positive) (in-loop .loop-test .taken));
+      size = ap length written ∙ length-fill (rowsBelow word (period + 1)) before (omega (arith, places-left in-loop, h .size, reached, call .ensures .0));
+      read = omega (arith, h .read, length-marks-more word period (h .positive) (in-loop .loop-test .taken));
       reached = reached;
       written = written;
     }
@@ -168,7 +168,7 @@ returns : tie.Need-returns Inv-loop μ-loop
 returns c =
     let start = c .before .before .before .before .before in
     let h = c .before .loop .inv in
-    h .written ∙ ap (λ (l : List ℕ). fill l (start .args .out .now)) (all-rows (start .args .word .now) (c .before .loop .half) (h .within) (c .loop-test .left))
+    h .written ∙ ap (λ (l : List ℕ). fill l (start .args .out .now)) (all-rows (start .args .word .now) (c .before .loop .period) (h .within) (c .loop-test .left))
 
 pub write-runs-spec : {M : Type 1} → statement M
 write-runs-spec =
@@ -182,16 +182,16 @@ write-runs-spec =
     mul-to
     sub-to
     add-to-2
-    sub-write-starts
-    part-write-starts-start
-    part-write-starts-end
-    mul-write-starts
-    sub-write-starts-2
-    part-write-starts-start-2
-    part-write-starts-end-2
-    write-starts-requires
+    sub-write-row
+    part-write-row-start
+    part-write-row-end
+    mul-write-row
+    sub-write-row-2
+    part-write-row-start-2
+    part-write-row-end-2
+    write-row-requires
     add-at
-    add-half
+    add-period
     loop-less
     loop-again
     same-length

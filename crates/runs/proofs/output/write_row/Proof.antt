@@ -1,4 +1,4 @@
--- `runs::output::write_starts` meets its contract. The invariant of its loop: the words of the runs at the first starts are written. The measure is the
+-- `runs::output::write_row` meets its contract. The invariant of its loop: the words of the runs at the first starts are written. The measure is the
 -- starts that are left. Assumes nothing.
 use mathlib.Core.Path.{_≡_, refl, sym, ap, _∙_}
 use mathlib.Core.Bool.{true}
@@ -16,8 +16,8 @@ use Rattle.squares.proofs.Candidates.{length-startMarks}
 use Rattle.runs.specs.Rows.{startsRun, rowWords}
 use Rattle.runs.proofs.Marks.{starts-square}
 use Rattle.runs.proofs.Rows.{wordsUpTo, all-starts, words-rise, words-one-more, words-no-more}
-use Rattle.runs.proofs.output.write_starts.Statement.{statement}
-use Rattle.runs.proofs.output.write_starts.Tie as tie
+use Rattle.runs.proofs.output.write_row.Statement.{statement}
+use Rattle.runs.proofs.output.write_row.Tie as tie
 
 -- the words of the runs at the first s starts are written, and they end at a place
 record Writing (w : List ℕ) (d : ℕ) (marks before out : List ℕ) (at s : ℕ) : Type 0 where
@@ -29,17 +29,17 @@ record Writing (w : List ℕ) (d : ℕ) (marks before out : List ℕ) (at s : �
   written : out ≡ fill (wordsUpTo w d s) before
 
 abbrev Inv-loop : tie.InvT-loop
-Inv-loop word table marks half out₀ at₀ start₀ out at start = Writing word half marks out₀ out at start
+Inv-loop word table marks period out₀ at₀ start₀ out at start = Writing word period marks out₀ out at start
 
 abbrev μ-loop : tie.MeasureT-loop
-μ-loop word table marks half out₀ at₀ start₀ out at start = length marks - start
+μ-loop word table marks period out₀ at₀ start₀ out at start = length marks - start
 
 loop-holds : tie.Need-loop-holds Inv-loop μ-loop
 unfolding fill
 loop-holds c =
     let start = c .before .before .before in
     let w = start .args .word .now in
-    record { within = omega arith; size = refl; all = ap length (start .pre .1 .0) ∙ length-startMarks w (start .args .half); reached = refl; few = omega arith; written = refl }
+    record { within = omega arith; size = refl; all = ap length (start .pre .1 .0) ∙ length-startMarks w (start .args .period); reached = refl; few = omega arith; written = refl }
 
 -- a run starts at the next start
 module _ (c : tie.Then1 Inv-loop μ-loop) where
@@ -53,7 +53,7 @@ module _ (c : tie.Then1 Inv-loop μ-loop) where
   w = start .args .word .now
 
   abbrev d : ℕ
-  d = start .args .half
+  d = start .args .period
 
   abbrev s : ℕ
   s = at-loop .loop .start
@@ -103,7 +103,7 @@ write-run-requires c κs =
         (
           (start .pre .1 .1 .0, omega arith, omega (arith, c .before .before .before .loop-test .taken)),
           (
-            starts-square (start .args .word .now) (start .args .half) (at-loop .loop .start + 1) (begins (c .before)),
+            starts-square (start .args .word .now) (start .args .period) (at-loop .loop .start + 1) (begins (c .before)),
             omega (arith, room-left (c .before), length-take (length out - at) (drop at out), length-drop at out),
           ),
         ),
@@ -124,7 +124,7 @@ loop-again c =
     let start = at-loop .before .before .before .before in
     let call = c .before .before .write-run in
     let w = start .args .word .now in
-    let d = start .args .half in
+    let d = start .args .period in
     let s = at-loop .loop .start in
     let before : List ℕ = start .args .out .now in
     let out = at-loop .loop .out in
@@ -151,8 +151,8 @@ loop-again-2 c =
     let at-loop = c .before .before .before in
     let start = at-loop .before .before .before .before in
     let h = at-loop .loop .inv in
-    let same : wordsUpTo (start .args .word .now) (start .args .half) (at-loop .loop .start + 1) ≡ wordsUpTo (start .args .word .now) (start .args .half) (at-loop .loop .start) =
-    words-no-more (start .args .word .now) (start .args .half) (at-loop .loop .start) (sym (c .before .starts-run .ensures) ∙ c .if1 .left) in
+    let same : wordsUpTo (start .args .word .now) (start .args .period) (at-loop .loop .start + 1) ≡ wordsUpTo (start .args .word .now) (start .args .period) (at-loop .loop .start) =
+    words-no-more (start .args .word .now) (start .args .period) (at-loop .loop .start) (sym (c .before .starts-run .ensures) ∙ c .if1 .left) in
     record {
       within = omega (arith, c .before .before .loop-test .taken);
       size = h .size;
@@ -169,12 +169,12 @@ returns : tie.Need-returns Inv-loop μ-loop
 returns c =
     let start = c .before .before .before .before .before in
     let h = c .before .loop .inv in
-    let all : wordsUpTo (start .args .word .now) (start .args .half) (c .before .loop .start) ≡ rowWords (start .args .word .now) (start .args .half) =
-    all-starts (start .args .word .now) (start .args .half) (c .before .loop .start) (omega (arith, h .all, h .within, c .loop-test .left)) in
+    let all : wordsUpTo (start .args .word .now) (start .args .period) (c .before .loop .start) ≡ rowWords (start .args .word .now) (start .args .period) =
+    all-starts (start .args .word .now) (start .args .period) (c .before .loop .start) (omega (arith, h .all, h .within, c .loop-test .left)) in
     (h .reached ∙ ap length all, h .written ∙ ap (λ (l : List ℕ). fill l (start .args .out .now)) all)
 
-pub write-starts-spec : {M : Type 1} → statement M
-write-starts-spec =
+pub write-row-spec : {M : Type 1} → statement M
+write-row-spec =
     tie.close
     (tie.spec
     Inv-loop

@@ -1,5 +1,5 @@
--- `runs::starts::count_runs` meets its contract. The invariant of its loop: the marks of the half lengths below `half` are read, and the words of their runs
--- counted. The measure is the half lengths that are left. Assumes nothing.
+-- `runs::starts::count_words` meets its contract. The invariant of its loop: the marks of the block lengths below `period` are read, and the words of their runs
+-- counted. The measure is the block lengths that are left. Assumes nothing.
 use mathlib.Core.Path.{_≡_, refl, ap, _∙_}
 use mathlib.Core.List.{List}
 use Prim.Native.Nat.{ℕ, suc, _+_, _-_, _*_, _≤_}
@@ -12,10 +12,10 @@ use Rattle.squares.proofs.Candidates.{marksBelow, marks-lent, marks-within, len
 use Rattle.runs.specs.Rows.{rowWords}
 use Rattle.runs.proofs.Rows.{rowsBelow, all-rows, rows-more, rows-fit}
 use Rattle.runs.proofs.Bound.{places-enough, bound-number}
-use Rattle.runs.proofs.starts.count_runs.Statement.{statement}
-use Rattle.runs.proofs.starts.count_runs.Tie as tie
+use Rattle.runs.proofs.starts.count_words.Statement.{statement}
+use Rattle.runs.proofs.starts.count_words.Tie as tie
 
--- the marks of the half lengths below q are read, and the words of their runs counted
+-- the marks of the block lengths below q are read, and the words of their runs counted
 record Counting (w : List ℕ) (from found q : ℕ) : Type 0 where
   positive : 1 ≤ q
   within : 2 * (q - 1) ≤ length w
@@ -23,10 +23,10 @@ record Counting (w : List ℕ) (from found q : ℕ) : Type 0 where
   counted : found ≡ length (rowsBelow w q)
 
 abbrev Inv-loop : tie.InvT-loop
-Inv-loop word marks from₀ found₀ half₀ from found half = Counting word from found half
+Inv-loop word marks from₀ found₀ period₀ from found period = Counting word from found period
 
 abbrev μ-loop : tie.MeasureT-loop
-μ-loop word marks from₀ found₀ half₀ from found half = length word + 1 - half
+μ-loop word marks from₀ found₀ period₀ from found period = length word + 1 - period
 
 -- what is known in the loop
 module _ (c : tie.In-loop Inv-loop μ-loop) where
@@ -37,7 +37,7 @@ module _ (c : tie.In-loop Inv-loop μ-loop) where
   w = start .args .word .now
 
   abbrev q : ℕ
-  q = c .before .loop .half
+  q = c .before .loop .period
 
   abbrev from : ℕ
   from = c .before .loop .from
@@ -45,7 +45,7 @@ module _ (c : tie.In-loop Inv-loop μ-loop) where
   abbrev inv : Counting w from (c .before .loop .found) q
   inv = c .before .loop .inv
 
-  -- the marks of this half length are among those of the slice
+  -- the marks of this block length are among those of the slice
   marks-left : from + (suc (length w) - 2 * q) ≤ length (start .args .marks .now)
   marks-left = marks-within w q (inv .positive) (c .loop-test .taken) (start .args .marks .now) (start .pre .1) from (inv .read)
 
@@ -83,30 +83,30 @@ sub-to c = search needs
 add-to-2 : tie.Need-add-to-2 Inv-loop μ-loop
 add-to-2 c = omega (arith, marks-left c)
 
-sub-count-starts : tie.Need-sub-count-starts Inv-loop μ-loop
-sub-count-starts c = search needs
+sub-count-row : tie.Need-sub-count-row Inv-loop μ-loop
+sub-count-row c = search needs
 
-part-count-starts-start : tie.Need-part-count-starts-start Inv-loop μ-loop
-part-count-starts-start c = search needs
+part-count-row-start : tie.Need-part-count-row-start Inv-loop μ-loop
+part-count-row-start c = search needs
 
-part-count-starts-end : tie.Need-part-count-starts-end Inv-loop μ-loop
-part-count-starts-end c = omega (arith, marks-left c)
+part-count-row-end : tie.Need-part-count-row-end Inv-loop μ-loop
+part-count-row-end c = omega (arith, marks-left c)
 
-count-starts-requires : tie.Need-count-starts-requires Inv-loop μ-loop
-count-starts-requires c κs = lent (c .before)
+count-row-requires : tie.Need-count-row-requires Inv-loop μ-loop
+count-row-requires c κs = lent (c .before)
 
-counted-more : (c : tie.After-count-starts Inv-loop μ-loop) → c .before .before .before .loop .found + c .count-starts .result ≡ length (rowsBelow (w (c .before .before)) (q (c .before .before) + 1))
+counted-more : (c : tie.After-count-row Inv-loop μ-loop) → c .before .before .before .loop .found + c .count-row .result ≡ length (rowsBelow (w (c .before .before)) (q (c .before .before) + 1))
 counted-more c =
     let in-loop = c .before .before in
     let h = in-loop .before .loop .inv in
-    omega (arith, h .counted, c .count-starts .ensures, ap length (rows-more (w in-loop) (q in-loop) (h .positive)), length-append (rowsBelow (w in-loop) (q in-loop)) (rowWords (w in-loop) (q in-loop)))
+    omega (arith, h .counted, c .count-row .ensures, ap length (rows-more (w in-loop) (q in-loop) (h .positive)), length-append (rowsBelow (w in-loop) (q in-loop)) (rowWords (w in-loop) (q in-loop)))
 
 add-found : tie.Need-add-found Inv-loop μ-loop
 add-found c = omega (arith, counted-more c, all-fit (c .before .before))
 
-add-half : tie.Need-add-half Inv-loop μ-loop
+add-period : tie.Need-add-period Inv-loop μ-loop
 unfolding longest
-add-half c = search needs
+add-period c = search needs
 
 loop-less : tie.Need-loop-less Inv-loop μ-loop
 loop-less c = search needs
@@ -126,10 +126,10 @@ returns : tie.Need-returns Inv-loop μ-loop
 returns c =
     let h = c .before .loop .inv in
     let start = c .before .before .before .before in
-    h .counted ∙ ap length (all-rows (start .args .word .now) (c .before .loop .half) (h .within) (c .loop-test .left))
+    h .counted ∙ ap length (all-rows (start .args .word .now) (c .before .loop .period) (h .within) (c .loop-test .left))
 
-pub count-runs-spec : {M : Type 1} → statement M
-count-runs-spec =
+pub count-words-spec : {M : Type 1} → statement M
+count-words-spec =
     tie.close
     (tie.spec
     Inv-loop
@@ -140,12 +140,12 @@ count-runs-spec =
     mul-to
     sub-to
     add-to-2
-    sub-count-starts
-    part-count-starts-start
-    part-count-starts-end
-    count-starts-requires
+    sub-count-row
+    part-count-row-start
+    part-count-row-end
+    count-row-requires
     add-found
-    add-half
+    add-period
     loop-less
     loop-again
     returns)

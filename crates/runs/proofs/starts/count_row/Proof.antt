@@ -1,4 +1,4 @@
--- `runs::starts::count_starts` meets its contract. The invariant of its loop: the words of the runs at the first starts are counted. The measure is the
+-- `runs::starts::count_row` meets its contract. The invariant of its loop: the words of the runs at the first starts are counted. The measure is the
 -- starts that are left. Assumes nothing.
 use mathlib.Core.Path.{_≡_, refl, sym, ap, _∙_}
 use mathlib.Core.Bool.{true, false}
@@ -11,8 +11,8 @@ use Rattle.abelian.specs.Runs.{runAt, wordsOfRun}
 use Rattle.squares.proofs.Candidates.{length-startMarks}
 use Rattle.runs.specs.Rows.{startsRun}
 use Rattle.runs.proofs.Rows.{wordsUpTo, all-starts, words-one-more, words-no-more}
-use Rattle.runs.proofs.starts.count_starts.Statement.{statement}
-use Rattle.runs.proofs.starts.count_starts.Tie as tie
+use Rattle.runs.proofs.starts.count_row.Statement.{statement}
+use Rattle.runs.proofs.starts.count_row.Tie as tie
 
 -- the words of the runs at the first s starts are counted
 record Counting (w marks : List ℕ) (d found s : ℕ) : Type 0 where
@@ -35,10 +35,10 @@ module _ (w marks : List ℕ) (d found s : ℕ) (h : Counting w marks d found s)
   no-more t = record { within = omega arith; counted = h .counted ∙ ap length (sym (words-no-more w d s t)); few = omega (arith, h .few) }
 
 abbrev Inv-loop : tie.InvT-loop
-Inv-loop word marks half found₀ start₀ found start = Counting word marks half found start
+Inv-loop word marks period found₀ start₀ found start = Counting word marks period found start
 
 abbrev μ-loop : tie.MeasureT-loop
-μ-loop word marks half found₀ start₀ found start = length marks - start
+μ-loop word marks period found₀ start₀ found start = length marks - start
 
 loop-holds : tie.Need-loop-holds Inv-loop μ-loop
 loop-holds c = record { within = omega arith; counted = refl; few = omega arith }
@@ -60,7 +60,7 @@ loop-again c =
     let at-loop = c .before .before .before in
     let start = at-loop .before .before .before in
     let h = at-loop .loop .inv in
-    one-more (start .args .word .now) (start .args .marks .now) (start .args .half) (at-loop .loop .found) (at-loop .loop .start) h (omega arith) (sym (c .before .starts-run .ensures) ∙ c .if1 .taken)
+    one-more (start .args .word .now) (start .args .marks .now) (start .args .period) (at-loop .loop .found) (at-loop .loop .start) h (omega arith) (sym (c .before .starts-run .ensures) ∙ c .if1 .taken)
 
 loop-less-2 : tie.Need-loop-less-2 Inv-loop μ-loop
 loop-less-2 c = search needs
@@ -70,17 +70,17 @@ loop-again-2 c =
     let at-loop = c .before .before .before in
     let start = at-loop .before .before .before in
     let h = at-loop .loop .inv in
-    no-more (start .args .word .now) (start .args .marks .now) (start .args .half) (at-loop .loop .found) (at-loop .loop .start) h (omega arith) (sym (c .before .starts-run .ensures) ∙ c .if1 .left)
+    no-more (start .args .word .now) (start .args .marks .now) (start .args .period) (at-loop .loop .found) (at-loop .loop .start) h (omega arith) (sym (c .before .starts-run .ensures) ∙ c .if1 .left)
 
 returns : tie.Need-returns Inv-loop μ-loop
 returns c =
     let start = c .before .before .before .before in
     let w = start .args .word .now in
-    let e : c .before .loop .start ≡ suc (length w) - 2 * start .args .half = omega (arith, ap length (start .pre), length-startMarks w (start .args .half)) in
-    c .before .loop .inv .counted ∙ ap length (all-starts w (start .args .half) (c .before .loop .start) e)
+    let e : c .before .loop .start ≡ suc (length w) - 2 * start .args .period = omega (arith, ap length (start .pre), length-startMarks w (start .args .period)) in
+    c .before .loop .inv .counted ∙ ap length (all-starts w (start .args .period) (c .before .loop .start) e)
 
-pub count-starts-spec : {M : Type 1} → statement M
-count-starts-spec =
+pub count-row-spec : {M : Type 1} → statement M
+count-row-spec =
     tie.close
     (tie.spec
     Inv-loop
