@@ -3,5 +3,7 @@ pub mod Lists
 pub mod Counts
 pub mod Pairs
 pub mod Definition1
+pub mod Largest
+pub mod Blocks
 pub mod Runs
 pub mod Marked

@@ -11,7 +11,8 @@ use Rattle.abelian.specs.Words.{vector, part}
 use Rattle.abelian.specs.Squares.{isSquare}
 use Rattle.abelian.specs.Runs.{most, repeats, runEnd}
 use Rattle.abelian.proofs.Lists.{same-equal, equal-same, below-or-not}
-use Rattle.abelian.proofs.Runs.{Blocks, two-blocks, blocks-repeats, repeats-blocks, blocks-largest, largest-most, most-largest, blockVector, firstVector}
+use Rattle.abelian.proofs.Largest.{largest-most, most-largest}
+use Rattle.abelian.proofs.Blocks.{Blocks, two-blocks, blocks-repeats, repeats-blocks, blocks-largest, blockVector, firstVector}
 
 -- squares of block length d stand at i, i + d and so on up to `last`, and their blocks repeat
 pub record Chain (w : List ℕ) (d i last : ℕ) : Type 0 where
@@ -40,16 +41,18 @@ module _ (w : List ℕ) (d i : ℕ) (start : 1 ≤ i) where
     pub chain-more : last + 3 * d ≤ length w + 1 → T (isSquare w d (last + d)) → Chain w d i (last + d)
     unfolding isSquare
     chain-more within square =
-        let alike : vector (part w (last + d - 1) d) ≡ vector (part w (last + d - 1 + d) d) = same-equal (vector (part w (last + d - 1) d)) (vector (part w (last + d - 1 + d) d)) square in
-        let next : blockVector w d i (suc (suc (c .steps))) ≡ firstVector w d i = behind ∙ sym alike ∙ sym second ∙ c .blocks .equal (suc (c .steps)) (omega arith) in
+        let k : ℕ = suc (suc (c .steps)) in
+        let alike : vector (part w (last + d - 1) d) ≡ vector (part w (last + d - 1 + d) d) =
+        same-equal (vector (part w (last + d - 1) d)) (vector (part w (last + d - 1 + d) d)) square in
+        let next : blockVector w d i k ≡ firstVector w d i = behind ∙ sym alike ∙ sym second ∙ c .blocks .equal (suc (c .steps)) (omega arith) in
         record {
           steps = suc (c .steps);
           place = omega (arith, c .place, suc-mul (c .steps) d);
           blocks = record {
             within = omega (arith, c .place, suc-mul (suc (suc (c .steps))) d, suc-mul (suc (c .steps)) d, suc-mul (c .steps) d);
             equal = λ m l.
-                ⊎-elim (c .blocks .equal m) (λ u. let e : suc (suc (c .steps)) ≡ m = omega arith in subst (λ (k : ℕ). blockVector w d i k ≡ firstVector w d i) e next)
-                (below-or-not m (suc (suc (c .steps))));
+                ⊎-elim (c .blocks .equal m) (λ u. let e : k ≡ m = omega arith in subst (λ (b : ℕ). blockVector w d i b ≡ firstVector w d i) e next)
+                (below-or-not m k);
           };
         }
 

@@ -8,7 +8,7 @@ use lib.ListN.{length, take, drop, length-take, length-drop}
 use lib.Dec.{T}
 use Rattle.abelian.specs.Words.{ofLetters, count, vector, noneAbove, part}
 use Rattle.abelian.proofs.Counts.{count-part, count-take-rises, noneAbove-counts, counts-noneAbove, letters-part, contained-shorter, shorter-contained, contained-noneAbove}
-use Rattle.abelian.proofs.Runs.{largest-most}
+use Rattle.abelian.proofs.Largest.{largest-most}
 use Rattle.runs.specs.Hands.{beside, room, besideFits, handOf}
 
 module _ (w : List ℕ) where
@@ -84,7 +84,8 @@ module _ (w : List ℕ) (d i : ℕ) (before : Bool) (at : ℕ) (p : Placed w d i
     pub fits-short : T (besideFits w d i before at k) → k < d
     unfolding besideFits
     fits-short f =
-        omega (arith, contained-shorter stretch block (letters-beside w (p .letters) before at k) (letters-part w (i - 1) d (p .letters)) f, length-beside w before at k (p .inside) there, length-block)
+        let l : length stretch < length block = contained-shorter stretch block (letters-beside w (p .letters) before at k) (letters-part w (i - 1) d (p .letters)) f in
+        omega (arith, l, length-beside w before at k (p .inside) there, length-block)
 
   -- what is contained stays so when it is shortened
   pub fits-shorter : (k m : ℕ) → k ≤ m → m ≤ room w before at → T (besideFits w d i before at m) → T (besideFits w d i before at k)

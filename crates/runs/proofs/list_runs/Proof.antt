@@ -61,7 +61,9 @@ slice-aggregate-mark-squares c = search needs
 
 -- the table is that of the word's prefix counts
 counted : (c : tie.After-prefix-counts) → Counted (w (c .before)) (c .prefix-counts .result)
-counted c = record { all = accepted-letters (w (c .before)) (accepted (c .before)); short = accepted-length (w (c .before)) (accepted (c .before)); rows = c .prefix-counts .ensures }
+counted c =
+    let told = c .before in
+    record { all = accepted-letters (w told) (accepted told); short = accepted-length (w told) (accepted told); rows = c .prefix-counts .ensures }
 
 mark-squares-requires : tie.Need-mark-squares-requires
 unfolding longest
@@ -73,8 +75,12 @@ slice-aggregate-count-words : tie.Need-slice-aggregate-count-words
 slice-aggregate-count-words c = search needs
 
 -- the marks are in the first places
-marked : (c : tie.After-mark-squares) → take (length (squareMarks (w (c .before .before .before .before)))) (c .mark-squares .last .1 .1 .0) ≡ squareMarks (w (c .before .before .before .before))
-marked c = ap (take (length (squareMarks (w (c .before .before .before .before))))) (c .mark-squares .ensures .1) ∙ take-fill (squareMarks (w (c .before .before .before .before))) _
+module _ (c : tie.After-mark-squares) where
+  abbrev squares : List ℕ
+  squares = squareMarks (w (c .before .before .before .before))
+
+  marked : take (length squares) (c .mark-squares .last .1 .1 .0) ≡ squares
+  marked = ap (take (length squares)) (c .mark-squares .ensures .1) ∙ take-fill squares _
 
 count-words-requires : tie.Need-count-words-requires
 count-words-requires c κs =

@@ -51,8 +51,11 @@ add-past c = search needs
 loop-holds : tie.Need-loop-holds Inv-loop μ-loop
 loop-holds c =
     let start = c .before .before .before .before in
-    halving-first (start .args .word .now) (start .args .period) (start .args .start) (start .args .before) (start .args .at) (placed start) (c .if1 .past) (start .pre .1 .0 .0)
-    (⊎-elim (λ t. omega (arith, t .0 .taken, t .1, c .before .letters-beside .ensures)) (λ t. omega (arith, t .0 .left, t .1, c .before .letters-beside .ensures)) (c .if1 .came))
+    halving-first (start .args .word .now) (start .args .period) (start .args .start) (start .args .before) (start .args .at) (placed start)
+    (c .if1 .past) (start .pre .1 .0 .0)
+    (⊎-elim (λ t. omega (arith, t .0 .taken, t .1, c .before .letters-beside .ensures))
+    (λ t. omega (arith, t .0 .left, t .1, c .before .letters-beside .ensures))
+    (c .if1 .came))
 
 add-loop : tie.Need-add-loop Inv-loop μ-loop
 add-loop c = search needs
@@ -130,7 +133,8 @@ loop-again-2 c = up (c .before) (passes (fits (c .before)) (not-false (fits (c .
 returns : tie.Need-returns Inv-loop μ-loop
 returns c =
     let start = c .before .before .before .before .before .before in
-    halving-done (start .args .word .now) (start .args .period) (start .args .start) (start .args .before) (start .args .at) (placed start) (c .before .loop .hand) (c .before .loop .past) (c .before .loop .inv) (omega arith)
+    halving-done (start .args .word .now) (start .args .period) (start .args .start) (start .args .before) (start .args .at) (placed start)
+    (c .before .loop .hand) (c .before .loop .past) (c .before .loop .inv) (omega arith)
 
 pub hand-spec : {M : Type 1} → statement M
 hand-spec =

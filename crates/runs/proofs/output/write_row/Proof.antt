@@ -38,8 +38,14 @@ loop-holds : tie.Need-loop-holds Inv-loop μ-loop
 unfolding fill
 loop-holds c =
     let start = c .before .before .before in
-    let w = start .args .word .now in
-    record { within = omega arith; size = refl; all = ap length (start .pre .1 .0) ∙ length-startMarks w (start .args .period); reached = refl; few = omega arith; written = refl }
+    record {
+      within = omega arith;
+      size = refl;
+      all = ap length (start .pre .1 .0) ∙ length-startMarks (start .args .word .now) (start .args .period);
+      reached = refl;
+      few = omega arith;
+      written = refl;
+    }
 
 -- a run starts at the next start
 module _ (c : tie.Then1 Inv-loop μ-loop) where
@@ -151,8 +157,10 @@ loop-again-2 c =
     let at-loop = c .before .before .before in
     let start = at-loop .before .before .before .before in
     let h = at-loop .loop .inv in
-    let same : wordsUpTo (start .args .word .now) (start .args .period) (at-loop .loop .start + 1) ≡ wordsUpTo (start .args .word .now) (start .args .period) (at-loop .loop .start) =
-    words-no-more (start .args .word .now) (start .args .period) (at-loop .loop .start) (sym (c .before .starts-run .ensures) ∙ c .if1 .left) in
+    let w = start .args .word .now in
+    let d = start .args .period in
+    let s = at-loop .loop .start in
+    let same : wordsUpTo w d (s + 1) ≡ wordsUpTo w d s = words-no-more w d s (sym (c .before .starts-run .ensures) ∙ c .if1 .left) in
     record {
       within = omega (arith, c .before .before .loop-test .taken);
       size = h .size;

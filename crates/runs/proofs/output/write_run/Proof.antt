@@ -8,7 +8,7 @@ use lib.ListN.{length, set}
 use Rattle.abelian.specs.Words.{longest}
 use Rattle.abelian.specs.Output.{runWord, handsWord, fill}
 use Rattle.abelian.specs.Runs.{leftFits, rightFits, leftHand, rightHand, runEnd, runAt, wordsOfRun}
-use Rattle.abelian.proofs.Runs.{most-le}
+use Rattle.abelian.proofs.Largest.{most-le}
 use Rattle.squares.proofs.Candidates.{length-startMarks}
 use Rattle.runs.specs.Hands.{room, besideFits, handOf}
 use Rattle.runs.proofs.Chains.{end-within}
@@ -96,10 +96,14 @@ returns : tie.Need-returns
 returns c =
     let ended = c .before .before .before .before in
     let start = ended .before .before .before .before in
-    ap₂ (λ (a b : ℕ). set (set (start .args .out .now) 0 a) 1 b) (c .before .run-word .ensures) (c .hands-word .ensures)
-    ∙ two-places (start .args .out .now) (runWord (start .args .period) (start .args .start)) (handsWord (ended .run-end .result) (c .before .before .before .hand .result) (c .before .before .hand2 .result)) (start .pre .1 .1 .1 .1)
-    ∙ ap (λ (ws : List ℕ). fill ws (start .args .out .now))
-    (numbers-of-run (start .args .word .now) (start .args .period) (start .args .start) (ended .run-end .ensures) (c .before .before .before .hand .ensures) (c .before .before .hand2 .ensures))
+    let left = c .before .before .before .hand in
+    let right = c .before .before .hand2 in
+    let out : List ℕ = start .args .out .now in
+    let d = start .args .period in
+    let i = start .args .start in
+    ap₂ (λ (a b : ℕ). set (set out 0 a) 1 b) (c .before .run-word .ensures) (c .hands-word .ensures)
+    ∙ two-places out (runWord d i) (handsWord (ended .run-end .result) (left .result) (right .result)) (start .pre .1 .1 .1 .1)
+    ∙ ap (λ (ws : List ℕ). fill ws out) (numbers-of-run (start .args .word .now) d i (ended .run-end .ensures) (left .ensures) (right .ensures))
 
 pub write-run-spec : {M : Type 1} → statement M
 write-run-spec =

@@ -59,8 +59,8 @@ loop-again : tie.Need-loop-again Inv-loop μ-loop
 loop-again c =
     let at-loop = c .before .before .before in
     let start = at-loop .before .before .before in
-    let h = at-loop .loop .inv in
-    one-more (start .args .word .now) (start .args .marks .now) (start .args .period) (at-loop .loop .found) (at-loop .loop .start) h (omega arith) (sym (c .before .starts-run .ensures) ∙ c .if1 .taken)
+    one-more (start .args .word .now) (start .args .marks .now) (start .args .period) (at-loop .loop .found) (at-loop .loop .start) (at-loop .loop .inv)
+    (omega arith) (sym (c .before .starts-run .ensures) ∙ c .if1 .taken)
 
 loop-less-2 : tie.Need-loop-less-2 Inv-loop μ-loop
 loop-less-2 c = search needs
@@ -69,8 +69,8 @@ loop-again-2 : tie.Need-loop-again-2 Inv-loop μ-loop
 loop-again-2 c =
     let at-loop = c .before .before .before in
     let start = at-loop .before .before .before in
-    let h = at-loop .loop .inv in
-    no-more (start .args .word .now) (start .args .marks .now) (start .args .period) (at-loop .loop .found) (at-loop .loop .start) h (omega arith) (sym (c .before .starts-run .ensures) ∙ c .if1 .left)
+    no-more (start .args .word .now) (start .args .marks .now) (start .args .period) (at-loop .loop .found) (at-loop .loop .start) (at-loop .loop .inv)
+    (omega arith) (sym (c .before .starts-run .ensures) ∙ c .if1 .left)
 
 returns : tie.Need-returns Inv-loop μ-loop
 returns c =

@@ -95,11 +95,20 @@ part-count-row-end c = omega (arith, marks-left c)
 count-row-requires : tie.Need-count-row-requires Inv-loop μ-loop
 count-row-requires c κs = lent (c .before)
 
-counted-more : (c : tie.After-count-row Inv-loop μ-loop) → c .before .before .before .loop .found + c .count-row .result ≡ length (rowsBelow (w (c .before .before)) (q (c .before .before) + 1))
-counted-more c =
-    let in-loop = c .before .before in
-    let h = in-loop .before .loop .inv in
-    omega (arith, h .counted, c .count-row .ensures, ap length (rows-more (w in-loop) (q in-loop) (h .positive)), length-append (rowsBelow (w in-loop) (q in-loop)) (rowWords (w in-loop) (q in-loop)))
+-- the words of this block length are counted too
+module _ (c : tie.After-count-row Inv-loop μ-loop) where
+  abbrev in-loop : tie.In-loop Inv-loop μ-loop
+  in-loop = c .before .before
+
+  counted-more : in-loop .before .loop .found + c .count-row .result ≡ length (rowsBelow (w in-loop) (q in-loop + 1))
+  counted-more =
+      omega (
+        arith,
+        inv in-loop .counted,
+        c .count-row .ensures,
+        ap length (rows-more (w in-loop) (q in-loop) (inv in-loop .positive)),
+        length-append (rowsBelow (w in-loop) (q in-loop)) (rowWords (w in-loop) (q in-loop)),
+      )
 
 add-found : tie.Need-add-found Inv-loop μ-loop
 add-found c = omega (arith, counted-more c, all-fit (c .before .before))

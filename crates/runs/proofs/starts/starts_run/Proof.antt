@@ -28,12 +28,14 @@ shared-slice-read-result-2 c = search needs
 returns : tie.Need-returns
 returns c =
     let start = c .before .before in
-    first-starts (start .args .word .now) (start .args .marks .now) (start .args .period) (start .args .start) (start .pre .0) (start .pre .1 .0) (start .pre .1 .1) (c .before .if1 .taken)
+    first-starts (start .args .word .now) (start .args .marks .now) (start .args .period) (start .args .start)
+    (start .pre .0) (start .pre .1 .0) (start .pre .1 .1) (c .before .if1 .taken)
 
 returns-2 : tie.Need-returns-2
 returns-2 c =
     let start = c .before .before .before in
-    later-starts (start .args .word .now) (start .args .marks .now) (start .args .period) (start .args .start) (start .pre .0) (start .pre .1 .0) (start .pre .1 .1) (c .before .before .if1 .left)
+    later-starts (start .args .word .now) (start .args .marks .now) (start .args .period) (start .args .start)
+    (start .pre .0) (start .pre .1 .0) (start .pre .1 .1) (c .before .before .if1 .left)
 
 pub starts-run-spec : {M : Type 1} → statement M
 starts-run-spec =
