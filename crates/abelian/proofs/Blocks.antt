@@ -11,9 +11,10 @@ use lib.Dec.{T, leb, ltb, leb→le, le→leb, ltb→lt, lt→ltb, T-not, not-T}
 use Rattle.abelian.specs.Lists.{upFrom, same, all}
 use Rattle.abelian.specs.Words.{vector, part}
 use Rattle.abelian.specs.Squares.{isSquare, squareStarts}
-use Rattle.abelian.specs.Runs.{goesBack, runStarts, repeats, Largest}
+use Rattle.abelian.specs.Runs.{most, goesBack, runStarts, repeats, runEnd, Largest}
 use Rattle.abelian.proofs.Tests.{both, left, right}
 use Rattle.abelian.proofs.Lists.{same-equal, equal-same, mem-keep, keep-mem, all-mem, mem-all, mem-upFrom, upFrom-mem, below-or-not}
+use Rattle.abelian.proofs.Largest.{most-largest}
 
 module _ (w : List ℕ) (d i : ℕ) where
   -- ---- blocks that repeat
@@ -64,23 +65,23 @@ module _ (w : List ℕ) (d i : ℕ) where
           rw e (sym (same-equal (vector (part w (i - 1) d)) (vector (part w (i - 1 + d) d)) square))
       alike (suc (suc m)) l = absurd (omega arith)
 
+  -- one block more that has the vector of the first
+  pub one-block-more : (k : ℕ) → Blocks k → i - 1 + k * d + d ≤ length w → blockVector k ≡ firstVector → Blocks (suc k)
+  one-block-more k b h e =
+      record {
+        within = omega arith;
+        equal = λ m u. ⊎-elim (b .equal m) (λ v. let q : k ≡ m = omega arith in subst (λ (a : ℕ). blockVector a ≡ firstVector) q e) (below-or-not m k);
+      }
+
   -- the block behind k blocks lies outside the word or differs from the first
   abbrev pub Ends : ℕ → Type 0
   Ends k = i - 1 + k * d + d ≤ length w → blockVector k ≢ firstVector
 
   -- k is the largest number of blocks that repeat: no other follows
   pub largest-blocks : (k : ℕ) → 1 ≤ d → Largest (repeats w d i) (length w) k → Blocks k × Ends k
-  largest-blocks k size l = (b, λ h e. l .none (suc k) (omega arith) (omega (arith, mul-le-mul-left (suc k) size)) (blocks-repeats (suc k) (more h e)))
-    where
-      b : Blocks k
-      b = repeats-blocks k (l .passes)
-
-      more : i - 1 + k * d + d ≤ length w → blockVector k ≡ firstVector → Blocks (suc k)
-      more h e =
-          record {
-            within = omega arith;
-            equal = λ m u. ⊎-elim (b .equal m) (λ v. let q : k ≡ m = omega arith in subst (λ (a : ℕ). blockVector a ≡ firstVector) q e) (below-or-not m k);
-          }
+  largest-blocks k size l =
+      let b : Blocks k = repeats-blocks k (l .passes) in
+      (b, λ h e. l .none (suc k) (omega arith) (omega (arith, mul-le-mul-left (suc k) size)) (blocks-repeats (suc k) (one-block-more k b h e)))
 
   -- k blocks that no other follows are the largest number
   pub blocks-largest : (k : ℕ) → 1 ≤ d → Blocks k → Ends k → Largest (repeats w d i) (length w) k
@@ -93,6 +94,16 @@ module _ (w : List ℕ) (d i : ℕ) where
             let h : suc k * d ≤ m * d = mul-le-mul-right d l in
             ends (omega arith) (c .equal k l);
       }
+
+  -- where position i is at most one behind the word, the number that is found is the largest that repeat
+  pub found-blocks : i - 1 ≤ length w → Largest (repeats w d i) (length w) (most (repeats w d i) (length w))
+  found-blocks h =
+      most-largest (repeats w d i) (length w) (blocks-repeats 0 (record { within = omega arith; equal = λ m l. absurd (omega arith) }))
+
+  -- so these blocks end in the word
+  pub end-within : i - 1 ≤ length w → runEnd w d i ≤ length w
+  unfolding runEnd
+  end-within h = repeats-blocks (most (repeats w d i) (length w)) (found-blocks h .passes) .within
 
   -- ---- starts
 

@@ -13,22 +13,16 @@ use Rattle.abelian.specs.Lists.{upFrom, Ordered}
 use Rattle.abelian.specs.Words.{longest, ofLetters, count, vector, contained, part}
 use Rattle.abelian.specs.Output.{outputWord, runWord, handsWord}
 use Rattle.abelian.specs.Squares.{isSquare, squareStarts}
-use Rattle.abelian.specs.Runs.{Run, most, goesBack, runStarts, repeats, runEnd, leftFits, rightFits, leftHand, rightHand, runAt, runs, wordsOfRun, runWords, readRun, Largest, AbelianRun, RunBefore}
+use Rattle.abelian.specs.Runs.{Run, most, goesBack, runStarts, repeats, runEnd, leftFits, rightFits, leftHand, rightHand, runAt, runs, wordsOfRun, runWords, readRun, AbelianRun, RunBefore}
 use Rattle.abelian.proofs.Tests.{left, right}
 use Rattle.abelian.proofs.Lists.{equal-same, mem-upFrom, upFrom-mem, mem-each, each-mem, length-each, ordered-keep, ordered-upFrom, ordered-map, ordered-each}
 use Rattle.abelian.proofs.Counts.{counts-noneAbove, letters-part, shorter-contained}
 use Rattle.abelian.proofs.Largest.{largest-most, le-most, most-largest, most-le}
-use Rattle.abelian.proofs.Blocks.{Blocks, Ends, RunStart, alike-back, back-alike, blocks-largest, blocks-repeats, firstVector, fits-start, largest-blocks, repeats-blocks, start-fits, two-blocks}
+use Rattle.abelian.proofs.Blocks.{Blocks, Ends, RunStart, alike-back, back-alike, blocks-largest, blocks-repeats, firstVector, fits-start, end-within, found-blocks, largest-blocks, start-fits, two-blocks}
 
 -- ---- from the list to the record
 
 module _ (w : List ℕ) (d i : ℕ) (s : RunStart w d i) where
-  -- the number of blocks is the largest that repeat
-  run-blocks : Largest (repeats w d i) (length w) (most (repeats w d i) (length w))
-  run-blocks =
-      most-largest (repeats w d i) (length w)
-      (blocks-repeats w d i 0 (record { within = omega arith; equal = λ m l. absurd (omega arith) }))
-
   -- no letters are contained in a block, which has some
   none-contained : 1 ≤ d → T (ofLetters w) → (at : ℕ) → T (contained (vector (part w at 0)) (firstVector w d i))
   unfolding count
@@ -42,7 +36,7 @@ module _ (w : List ℕ) (d i : ℕ) (s : RunStart w d i) where
   unfolding runAt runEnd leftHand rightHand leftFits rightFits
   start-run size t =
       let k : ℕ = most (repeats w d i) (length w) in
-      let b : Blocks w d i k × Ends w d i k = largest-blocks w d i k size run-blocks in
+      let b : Blocks w d i k × Ends w d i k = largest-blocks w d i k size (found-blocks w d i (omega arith)) in
       record {
         size = size;
         start = s .start;
@@ -177,13 +171,12 @@ pub runs-within : (w : List ℕ) {r : Run} → List·Memᴰ r (runs w) → Withi
 unfolding runAt runEnd leftHand rightHand
 runs-within w {r} m =
     let l : (1 ≤ r .d) × AtStart w r = mem-runs w m in
-    let k : ℕ = most (repeats w (r .d) (r .i)) (length w) in
     let j : ℕ = runEnd w (r .d) (r .i) in
     subst (Within (length w)) (l .1 .whole)
     (record {
       size = omega arith;
       start = omega arith;
-      end = repeats-blocks w (r .d) (r .i) k (run-blocks w (r .d) (r .i) (l .1 .start) .passes) .within;
+      end = end-within w (r .d) (r .i) (omega arith);
       leftHand = omega (arith, most-le (leftFits w (r .d) (r .i)) (r .i - 1));
       rightHand = omega (arith, most-le (rightFits w (r .d) (r .i) j) (length w - j));
     })

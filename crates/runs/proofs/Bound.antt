@@ -1,5 +1,5 @@
 -- Laws of how many words the runs of a word can have: no two runs of one block length start one block apart, so that of the candidates of two blocks in a row
--- at most period are starts.
+-- at most half are starts.
 use mathlib.Core.Path.{_≡_, refl, sym, ap, _∙_}
 use mathlib.Core.Bool.{Bool, true, false}
 use mathlib.Core.List.{List, map}

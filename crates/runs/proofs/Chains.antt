@@ -1,6 +1,5 @@
 -- Laws of chains of squares: where one stands a block behind another, the blocks go on, and where none does, they end.
-use mathlib.Core.Path.{_≡_, sym, ap, subst, _∙_}
-use mathlib.Core.Logic.{⊎-elim}
+use mathlib.Core.Path.{_≡_, sym, ap, _∙_}
 use mathlib.Core.List.{List}
 use Prim.Native.Nat.{ℕ, suc, _+_, _-_, _*_, _≤_}
 use native.Mathlib.Nat.{suc-mul}
@@ -10,11 +9,11 @@ use lib.Dec.{T}
 use Rattle.abelian.specs.Words.{vector, part}
 use Rattle.abelian.specs.Squares.{isSquare}
 use Rattle.abelian.specs.Runs.{most, repeats, runEnd}
-use Rattle.abelian.proofs.Lists.{same-equal, equal-same, below-or-not}
-use Rattle.abelian.proofs.Largest.{largest-most, most-largest}
-use Rattle.abelian.proofs.Blocks.{Blocks, two-blocks, blocks-repeats, repeats-blocks, blocks-largest, blockVector, firstVector}
+use Rattle.abelian.proofs.Lists.{same-equal, equal-same}
+use Rattle.abelian.proofs.Largest.{largest-most}
+use Rattle.abelian.proofs.Blocks.{Blocks, two-blocks, one-block-more, blocks-largest, blockVector, firstVector}
 
--- squares of block length d stand at i, i + d and so on up to `last`, and their blocks repeat
+-- squares of half length d stand at i, i + d and so on up to `last`, and their blocks repeat
 pub record Chain (w : List ℕ) (d i last : ℕ) : Type 0 where
   pub steps : ℕ
   pub place : last ≡ i + steps * d
@@ -48,12 +47,7 @@ module _ (w : List ℕ) (d i : ℕ) (start : 1 ≤ i) where
         record {
           steps = suc (c .steps);
           place = omega (arith, c .place, suc-mul (c .steps) d);
-          blocks = record {
-            within = omega (arith, c .place, suc-mul (suc (suc (c .steps))) d, suc-mul (suc (c .steps)) d, suc-mul (c .steps) d);
-            equal = λ m l.
-                ⊎-elim (c .blocks .equal m) (λ u. let e : k ≡ m = omega arith in subst (λ (b : ℕ). blockVector w d i b ≡ firstVector w d i) e next)
-                (below-or-not m k);
-          };
+          blocks = one-block-more w d i k (c .blocks) (omega (arith, c .place, suc-mul (suc (c .steps)) d, suc-mul (c .steps) d)) next;
         }
 
     -- where no square stands there, the blocks end with the last square
@@ -68,10 +62,3 @@ module _ (w : List ℕ) (d i : ℕ) (start : 1 ≤ i) where
         (equal-same (vector (part w (last + d - 1) d)) (vector (part w (last + d - 1 + d) d))
         (sym second ∙ c .blocks .equal (suc (c .steps)) (omega arith) ∙ sym e ∙ behind)))) in
         omega (arith, ap (λ (m : ℕ). m * d) n, c .place, suc-mul (suc (c .steps)) d, suc-mul (c .steps) d)
-
--- the blocks end in the word
-pub end-within : (w : List ℕ) (d i : ℕ) → i - 1 ≤ length w → runEnd w d i ≤ length w
-unfolding runEnd
-end-within w d i h =
-    repeats-blocks w d i (most (repeats w d i) (length w))
-    (most-largest (repeats w d i) (length w) (blocks-repeats w d i 0 (record { within = omega arith; equal = λ m l. absurd (omega arith) })) .passes) .within

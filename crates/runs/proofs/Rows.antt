@@ -71,12 +71,12 @@ module _ (w : List ℕ) where
   unfolding runWords runs rowWords
   words-of-rows = each-each (λ (d : ℕ). map (runAt w d) (runStarts w d)) wordsOfRun (upFrom 1 (length w))
 
-  -- blocks that are longer than period the word have no run
+  -- blocks that are longer than half the word have no run
   pub long-no-words : (d : ℕ) → length w < 2 * d → rowWords w d ≡ []
   unfolding rowWords runStarts squareStarts
   long-no-words d h = let e : suc (length w) - 2 * d ≡ 0 = omega arith in rw e
 
-  -- past period the word there are no more words
+  -- past half the word there are no more words
   pub all-rows : (q : ℕ) → 2 * (q - 1) ≤ length w → length w < 2 * q → rowsBelow q ≡ runWords w
   all-rows q within past =
       let l : q - 1 ≤ length w = omega arith in

@@ -16,7 +16,7 @@ use Rattle.runs.proofs.Chains.{Chain, chain-one, chain-more, chain-end}
 use Rattle.runs.proofs.hands.run_end.Statement.{statement}
 use Rattle.runs.proofs.hands.run_end.Tie as tie
 
--- the squares of block length d from i to `last` are a chain, and `last` is a candidate
+-- the squares of half length d from i to `last` are a chain, and `last` is a candidate
 record Following (w marks : List ℕ) (d i last : ℕ) : Type 0 where
   within : last ≤ length marks
   later : i ≤ last

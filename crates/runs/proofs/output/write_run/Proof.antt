@@ -9,9 +9,9 @@ use Rattle.abelian.specs.Words.{longest}
 use Rattle.abelian.specs.Output.{runWord, handsWord, fill}
 use Rattle.abelian.specs.Runs.{leftFits, rightFits, leftHand, rightHand, runEnd, runAt, wordsOfRun}
 use Rattle.abelian.proofs.Largest.{most-le}
+use Rattle.abelian.proofs.Blocks.{end-within}
 use Rattle.squares.proofs.Candidates.{length-startMarks}
 use Rattle.runs.specs.Hands.{room, besideFits, handOf}
-use Rattle.runs.proofs.Chains.{end-within}
 use borrow.Author.Needs.{needs}
 use Rattle.runs.proofs.output.write_run.Statement.{statement}
 use Rattle.runs.proofs.output.write_run.Tie as tie
