@@ -6,4 +6,6 @@ pub mod Definition1
 pub mod Largest
 pub mod Blocks
 pub mod Runs
+pub mod Refusals
+pub mod CountAndWrite
 pub mod Marked

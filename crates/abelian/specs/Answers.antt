@@ -12,12 +12,15 @@ use Rattle.abelian.specs.declared.Scaled.{Scaled}
 use Rattle.abelian.specs.declared.Scaled.the-variants as scaled
 use Rattle.abelian.specs.declared.Wrote.{Wrote}
 use Rattle.abelian.specs.declared.Wrote.the-variants as wrote
+use Rattle.abelian.specs.declared.Needed.{Needed}
+use Rattle.abelian.specs.declared.Needed.the-variants as needed
 use Rattle.abelian.specs.declared.Covered.{Covered}
 use Rattle.abelian.specs.declared.Covered.the-variants as covered
 use Rattle.abelian.specs.declared.Outcome.{Outcome}
 use Rattle.abelian.specs.declared.Outcome.the-variants as outcome
 
--- The numbers of an answer; `yes` is 1 where the judge says yes and where a cover is found. A number that a call's answer has no room for, or that is not named, is 0; number 0 is acceptance.
+-- The numbers of an answer. `written` is the number of words: of a list those that it has written, of a count those that the list has. `yes` is 1 where the judge says yes
+-- and where a cover is found. A number that a call's answer has no room for, or that is not named, is 0; number 0 is acceptance.
 pub record Answer : Type 0 where
   pub number : ℕ
   pub value : ℕ
@@ -40,6 +43,10 @@ refusing r out =
 abbrev pub writing : ℕ → ℕ → ℕ → ℕ → List ℕ → Answer
 writing words tried s t out =
     record { number = 0; value = 0; written = words; trials = tried; s = s; t = t; yes = 0; block = 0; letter = 0; cover = 0; output = out }
+
+-- accepted, with the number of words that a count has found; it writes none, and there is no slice
+abbrev pub counting : ℕ → Answer
+counting words = writing words 0 0 0 []
 
 -- accepted, with what the judge and the search for a cover say: yes or no, block and letter, the cover's length
 abbrev pub deciding : ℕ → ℕ → ℕ → ℕ → Answer
@@ -71,6 +78,10 @@ answeredScaled (scaled.Refused r) out = refusing r out
 abbrev pub answeredWrote : Wrote → List ℕ → Answer
 answeredWrote (wrote.Words words) out = writing words 0 0 0 out
 answeredWrote (wrote.Refused r) out = refusing r out
+
+abbrev pub answeredNeeded : Needed → Answer
+answeredNeeded (needed.Words words) = counting words
+answeredNeeded (needed.Refused r) = refusing r []
 
 abbrev pub answeredCovered : Covered → Answer
 answeredCovered (covered.Length m) = deciding 1 0 0 m

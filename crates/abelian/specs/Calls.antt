@@ -14,7 +14,7 @@ use Rattle.abelian.specs.Squares.{squareWords}
 use Rattle.abelian.specs.Runs.{runWords}
 use Rattle.abelian.specs.Covers.{coverLength}
 use Rattle.abelian.specs.Refusals.{wordRefusal}
-use Rattle.abelian.specs.Answers.{Answer, writing, deciding, unless}
+use Rattle.abelian.specs.Answers.{Answer, writing, counting, deciding, unless}
 
 -- yes, or the first failure
 unfoldable pub firstFailure : List Failure → Answer
@@ -34,6 +34,10 @@ unfoldable pub listing : List ℕ → List ℕ → List ℕ → ℕ → ℕ → 
 listing w out ws trials s t =
     unless (wordRefusal w false (length ws) (length out)) out (writingWords ws trials s t out)
 
+-- A count (C-12): "every refusal of the write but 3, in the same order", so 1, 2; else the number of the list's words.
+unfoldable pub countWords : List ℕ → List ℕ → Answer
+countWords w ws = unless (wordRefusal w false 0 0) [] (counting (length ws))
+
 -- the words of the Abelian periods, in pair order
 unfoldable pub periodWords : List ℕ → List ℕ
 periodWords w = map periodWord (periods w)
@@ -49,6 +53,10 @@ plainListing w out = listing w out (periodWords w) (plainTrials w) 0 0
 unfoldable pub skippingListing : List ℕ → List ℕ → Answer
 skippingListing w out = listing w out (periodWords w) (skippingTrials w) 0 0
 
+-- the number of these words, for both listers: "Trials, s and T stay with the write" (C-12)
+unfoldable pub periodCount : List ℕ → Answer
+periodCount w = countWords w (periodWords w)
+
 -- "Two paths, plain and scaled, list them by rising p. The scaled path also answers s and T."
 unfoldable pub fullListing : List ℕ → List ℕ → Answer
 fullListing w out = listing w out (fullWords w) 0 0 0
@@ -56,13 +64,23 @@ fullListing w out = listing w out (fullWords w) 0 0 0
 unfoldable pub scaledListing : List ℕ → List ℕ → Answer
 scaledListing w out = listing w out (fullWords w) 0 (scale w) (scaledGap w)
 
--- "Squares".
+-- the number of the full periods' words, for both paths
+unfoldable pub fullCount : List ℕ → Answer
+fullCount w = countWords w (fullWords w)
+
+-- "Squares", and their number.
 unfoldable pub squareListing : List ℕ → List ℕ → Answer
 squareListing w out = listing w out (squareWords w) 0 0 0
 
--- "Abelian runs" (C-11).
+unfoldable pub squareCount : List ℕ → Answer
+squareCount w = countWords w (squareWords w)
+
+-- "Abelian runs" (C-11), and the number of their words, two for each.
 unfoldable pub runListing : List ℕ → List ℕ → Answer
 runListing w out = listing w out (runWords w) 0 0 0
+
+unfoldable pub runCount : List ℕ → Answer
+runCount w = countWords w (runWords w)
 
 -- none, where the cover length is 0, or the length
 unfoldable pub noneOrLength : ℕ → Answer
@@ -72,9 +90,12 @@ noneOrLength m = pick (eqb m 0) (deciding 0 0 0 0) (deciding 1 0 0 m)
 unfoldable pub coverAnswer : List ℕ → Answer
 coverAnswer w = unless (wordRefusal w false 0 0) [] (noneOrLength (coverLength w))
 
--- "Report": one word of kind 8, then full periods, periods, squares.
+-- "Report": one word of kind 8, then full periods, periods, squares; and the number of these words.
 unfoldable pub reportWords : List ℕ → List ℕ
 reportWords w = reportHead (length w) (one (ltb 0 (coverLength w))) ∷ (fullWords w ++ (periodWords w ++ squareWords w))
 
 unfoldable pub reporting : List ℕ → List ℕ → Answer
 reporting w out = listing w out (reportWords w) 0 0 0
+
+unfoldable pub reportCount : List ℕ → Answer
+reportCount w = countWords w (reportWords w)

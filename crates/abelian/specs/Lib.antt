@@ -13,4 +13,5 @@ pub mod Refusals
 pub mod Answers
 pub mod Calls
 pub mod Trackers
+pub mod CountAndWrite
 pub mod Marked

@@ -14,9 +14,10 @@ use Rattle.abelian.specs.FullPeriods.{fullPeriods, scale, scaledGap}
 use Rattle.abelian.specs.EndedLengths.{endedLength}
 use Rattle.abelian.specs.Squares.{squareWords}
 use Rattle.abelian.specs.Runs.{Run, run, wordsOfRun, runWords}
-use Rattle.abelian.specs.Answers.{Answer, writing, deciding}
+use Rattle.abelian.specs.Answers.{Answer, writing, counting, deciding}
 use Rattle.abelian.specs.Calls.{judging, periodWords, reportWords, plainListing, skippingListing, fullListing, scaledListing, squareListing, runListing, coverAnswer, reporting}
-use Rattle.abelian.specs.Trackers.{entries, freshTracker, adding, takingBack, clearing, trackerListing}
+use Rattle.abelian.specs.Calls.{periodCount, fullCount, squareCount, runCount, reportCount}
+use Rattle.abelian.specs.Trackers.{entries, freshTracker, adding, takingBack, clearing, trackerListing, trackerCount}
 use Rattle.abelian.specs.declared.Tracker.{Tracker}
 
 -- A row: a word, an answer or a tracker, and what the documents say of it.
@@ -47,6 +48,8 @@ pub data Row : Type 0 where
   refuses : Answer → ℕ → ℕ → List ℕ → Row
   -- an accepted answer's words written, trials, s and T, and the slice afterwards
   writes : Answer → ℕ → ℕ → ℕ → ℕ → List ℕ → Row
+  -- an accepted count's number of words, all other numbers being 0
+  counts : Answer → ℕ → Row
   -- a tracker's first bytes, one for each of its letters and one behind them; the entry of a pair; its list
   tracks : Tracker → List ℕ → Pair → ℕ → List Pair → Row
   -- a tracker's board
@@ -94,6 +97,7 @@ rowHolds (judgedNo w x k c) = sameAnswer (judging w x) (deciding 0 k c 0)
 rowHolds (reportIs w ws) = same (reportWords w) ws
 rowHolds (refuses a number value out) = sameAnswer a (refusal number value out)
 rowHolds (writes a written trials s t out) = sameAnswer a (writing written trials s t out)
+rowHolds (counts a words) = sameAnswer a (counting words)
 rowHolds (tracks t bytes x e xs) =
     same (take (suc (t .len)) (t .bytes)) bytes && eqb (entryOf x (t .board)) e
     && sameAnswer (trackerListing t (replicate (length xs) 0) .answer) (writing (length xs) 0 0 0 (map periodWord xs))
@@ -235,6 +239,9 @@ more =
 abbrev figure : List ℕ
 figure = a ∷ a ∷ b ∷ b ∷ a ∷ c ∷ b ∷ b ∷ a ∷ a ∷ b ∷ b ∷ b ∷ b ∷ []
 
+abbrev abab : List ℕ
+abab = a ∷ b ∷ a ∷ b ∷ []
+
 abbrev ababa : List ℕ
 ababa = a ∷ b ∷ a ∷ b ∷ a ∷ []
 
@@ -253,4 +260,19 @@ requested =
     -- the two words by their numbers, with a right and with a left hand
     ∷ writes (runListing ababa (5 ∷ 6 ∷ 7 ∷ 8 ∷ 9 ∷ [])) 4 0 0 0 (1342210049 ∷ 1610874881 ∷ 1342210050 ∷ 1610940672 ∷ 9 ∷ [])
     ∷ refuses (runListing ababa (5 ∷ 6 ∷ 7 ∷ [])) 3 4 (5 ∷ 6 ∷ 7 ∷ [])
+    -- C-12: the words of each list, of runs two each; those of an empty one
+    ∷ counts (periodCount abab) 5
+    ∷ counts (fullCount abab) 2
+    ∷ counts (squareCount abab) 1
+    ∷ counts (runCount ababa) 4
+    ∷ counts (reportCount abb) 5
+    ∷ counts (reportCount []) 1
+    ∷ counts (periodCount []) 0
+    -- refused as the write is, but never for length
+    ∷ refuses (periodCount (B ∷ replicate 240 a)) 1 0 []
+    ∷ refuses (reportCount (a ∷ B ∷ 99 ∷ [])) 2 2 []
+    -- the tracker's count: the pairs in range with entry 0, whatever the letters are; or 6
+    ∷ counts (trackerCount given .answer) 2
+    ∷ counts (trackerCount (made 2 (a ∷ a ∷ 0 ∷ []) (7 ∷ 0 ∷ [])) .answer) 1
+    ∷ refuses (trackerCount (made 241 [] []) .answer) 6 0 []
     ∷ []

@@ -10,7 +10,7 @@ use Rattle.abelian.specs.Words.{alphabetSize, longest, isLetter, ofLette
 use Rattle.abelian.specs.Periods.{Pair, inRange, pairs, isPeriod}
 use Rattle.abelian.specs.Output.{periodWord}
 use Rattle.abelian.specs.Refusals.{trackerRefusal}
-use Rattle.abelian.specs.Answers.{Answer, refusing, accepting}
+use Rattle.abelian.specs.Answers.{Answer, refusing, counting, accepting}
 use Rattle.abelian.specs.Calls.{writingWords}
 use Rattle.abelian.specs.declared.Refusal.{Refusal}
 use Rattle.abelian.specs.declared.Tracker.{Tracker}
@@ -87,9 +87,19 @@ clearing t = record { tracker = freshTracker; answer = accepting }
 unfoldable pub openPairs : ℕ → List ℕ → List Pair
 openPairs n board = pairsWhere (λ (x : Pair) (e : ℕ). inRange n x && eqb e 0) (pairs longest) board
 
+-- and their words
+abbrev pub openWords : ℕ → List ℕ → List ℕ
+openWords n board = map periodWord (openPairs n board)
+
 -- "List": refusals 6, 3; else the words of the pairs in range with entry 0 in the first places. The tracker stays as it is.
 unfoldable pub trackerListing : Tracker → List ℕ → Step
 trackerListing t out =
-    let ws : List ℕ = map periodWord (openPairs (t .len) (t .board)) in
+    let ws : List ℕ = openWords (t .len) (t .board) in
     stepUnless (trackerRefusal (damaged t) false false false (length ws) (length out)) out t
     (record { tracker = t; answer = writingWords ws 0 0 0 out })
+
+-- The list's count (C-12): refusal 6; else the number of these words. "It changes no tracker."
+unfoldable pub trackerCount : Tracker → Step
+trackerCount t =
+    stepUnless (trackerRefusal (damaged t) false false false 0 0) [] t
+    (record { tracker = t; answer = counting (length (openWords (t .len) (t .board))) })

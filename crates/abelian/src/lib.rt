@@ -98,6 +98,12 @@ pub enum Wrote {
     Refused(Refusal),
 }
 
+// What a count answers: how many words its list has, and so how many places a slice needs.
+pub enum Needed {
+    Words(usize),
+    Refused(Refusal),
+}
+
 // What the search for a cover answers: a length, or that there is no cover.
 pub enum Covered {
     Length(usize),
