@@ -10,6 +10,7 @@ use lib.ListN.{length}
 use lib.Dec.{T, eqb, ltb, eqb→eq}
 use borrow.Author.Tests.{lt-ltb, le-ltb, ne-eqb, ltb-false}
 use Rattle.abelian.proofs.Tests.{passes}
+use Rattle.abelian.proofs.Refusals.{some-none}
 use Rattle.abelian.specs.Lists.{pick}
 use Rattle.abelian.specs.Words.{alphabetSize, longest, firstOutside, ofLetters}
 use Rattle.abelian.specs.Refusals.{firstHolding, wordRefusal}
@@ -19,10 +20,6 @@ use Rattle.abelian.specs.declared.Refusal.the-variants.{TooLong, NotALetter, Sl
 use Rattle.abelian.specs.declared.Outcome.the-variants.{Accepted, Refused}
 
 -- ---- an outcome
-
--- a refusal is not the want of one
-some-none : {r : Refusal} → some r ≡ none → ⊥
-some-none e = let z : _≡_ {A = ℕ} 0 1 = cc in omega arith
 
 -- what is accepted has no refusal
 pub accepted-none : (o : Option Refusal) → outcomeOf o ≡ Accepted → o ≡ none
