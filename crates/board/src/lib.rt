@@ -8,14 +8,13 @@ use abelian::Head;
 use abelian::Period;
 use row_starts::ROW_STARTS;
 ghost use mathlib.Core.Path.{_≡_};
-ghost use mathlib.Core.List.{map};
 ghost use Prim.Native.Nat.{_+_, _≤_};
 ghost use lib.ListN.{length};
 ghost use lib.Seq.{sets};
 ghost use Rattle.abelian.specs.Words.{longest, count};
 ghost use Rattle.abelian.specs.Periods.{pair, heads};
 ghost use Rattle.abelian.specs.Output.{periodWord, fill};
-ghost use Rattle.abelian.specs.Trackers.{openPairs};
+ghost use Rattle.abelian.specs.Trackers.{openPairs, openWords};
 ghost use Rattle.board.specs.Places.{rowStart};
 ghost use Rattle.board.specs.Rows.{rowWords};
 
@@ -103,7 +102,7 @@ fn write_row(row: &[u8], period: Period, out: &mut [u32], at: usize) -> usize
 pub fn write_open(board: &[u8; BOARD], n: usize, out: &mut [u32])
     requires { ⌜ n ≤ longest ⌝ }
     requires { ⌜ length (openPairs n (now board)) ≤ length (now out) ⌝ }
-    ensures { λ _. ⌜ now (out .exit) ≡ fill (map periodWord (openPairs n (now (board .entry)))) (now (out .entry)) ⌝ }
+    ensures { λ _. ⌜ now (out .exit) ≡ fill (openWords n (now (board .entry))) (now (out .entry)) ⌝ }
 {
     let entries = &board[..];
     let mut at = 0;

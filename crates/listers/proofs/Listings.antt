@@ -6,7 +6,7 @@ use mathlib.Core.Option.{none}
 use mathlib.Core.List.{List, [], _∷_, map}
 use Prim.Native.Nat.{ℕ, _≤_}
 use native.Mathlib.Omega.{arith}
-use lib.ListN.{length, getD, replicate, length-replicate, getD-replicate}
+use lib.ListN.{length, getD, replicate, length-replicate, getD-replicate, length-map}
 use lib.Dec.{T, eqb, ltb}
 use borrow.Author.Tests.{ltb-true, ltb-false, leb-true, leb-false, ne-eqb}
 use Rattle.abelian.specs.Lists.{keep}
@@ -83,6 +83,11 @@ ended-periods w l =
     ∙ ap (openPairs (length w)) (entries-boardOf (entryAdded w) (λ (x : Pair). 0))
     ∙ open-of-entries (length w) (λ (x : Pair). entryAdded w x 0) l
     ∙ keep-agree (λ (x : Pair). eqb (entryAdded w x 0) 0) (isPeriod w) (pairs (length w)) (λ x m. open-period w x (pairs-in-range (length w) x m))
+
+-- a board on which the Abelian periods are open has as many open pairs as their list has words
+pub open-count : (w board : List ℕ) → openPairs (length w) board ≡ periods w → length (openPairs (length w) board) ≡ length (periodWords w)
+unfolding periodWords
+open-count w board e = ap length e ∙ sym (length-map (periods w) periodWord)
 
 -- ---- the plain lister's answer
 

@@ -1,11 +1,11 @@
 -- The list of a board's open pairs, as both listers end.
 use Prim.Native.Nat.{ℕ}
-use mathlib.Core.List.{List, map}
+use mathlib.Core.List.{List}
 use lib.ListN.{length}
 use lib.Dec.{ltb}
 use Rattle.abelian.specs.Lists.{pick}
-use Rattle.abelian.specs.Output.{periodWord, fill}
-use Rattle.abelian.specs.Trackers.{openPairs}
+use Rattle.abelian.specs.Output.{fill}
+use Rattle.abelian.specs.Trackers.{openWords}
 use Rattle.abelian.specs.Answers.{Answer, refusing, writing}
 use Rattle.abelian.specs.declared.Refusal.the-variants.{SliceTooShort}
 
@@ -16,4 +16,4 @@ wordsListed ws trials out =
 
 -- the words of the pairs in range for n whose entry is 0
 unfoldable pub openListing : ℕ → List ℕ → ℕ → List ℕ → Answer
-openListing n board trials out = wordsListed (map periodWord (openPairs n board)) trials out
+openListing n board trials out = wordsListed (openWords n board) trials out

@@ -1,4 +1,4 @@
-// The candidates of a word, tried on a board: what the skipping lister does before it lists, and how the Abelian periods are counted.
+// The candidates of a word, tried on a board: what the skipping lister does before it lists, and how it counts.
 use crate::lowest::lowest_periods;
 use crate::passing::pass_over;
 use abelian::BOARD;
@@ -10,7 +10,7 @@ ghost use Prim.Native.Nat.{_≤_};
 ghost use lib.Dec.{T};
 ghost use lib.ListN.{length};
 ghost use Rattle.abelian.specs.Words.{longest, ofLetters};
-ghost use Rattle.abelian.specs.Periods.{periods};
+ghost use Rattle.abelian.specs.Calls.{periodWords};
 ghost use Rattle.abelian.specs.Trackers.{boardSize, openPairs};
 ghost use Rattle.board.specs.Ending.{allEnded};
 ghost use Rattle.listers.specs.Passing.{othersPassed};
@@ -32,10 +32,10 @@ pub(crate) fn try_candidates(word: &[u8], board: &mut [u8; BOARD]) -> usize
 }
 
 // The number of Abelian periods of a word that may be taken. For the crates above.
-pub fn count_periods(word: &[u8]) -> usize
+pub fn number_of_periods(word: &[u8]) -> usize
     requires { ⌜ T (ofLetters (now word)) ⌝ }
     requires { ⌜ length (now word) ≤ longest ⌝ }
-    ensures { λ r. ⌜ r ≡ length (periods (now (word .entry))) ⌝ }
+    ensures { λ r. ⌜ r ≡ length (periodWords (now (word .entry))) ⌝ }
 {
     let mut board = [0u8; BOARD];
     try_candidates(word, &mut board);

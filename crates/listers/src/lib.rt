@@ -1,24 +1,26 @@
-// The two listers of Abelian periods. Both go through a board of the pairs in range and write those that are left open; they differ in
-// the pairs that they try.
+// The two listers of Abelian periods, and their counts. Each goes through a board of the pairs in range, and writes or counts those that
+// are left open; the two listers differ in the pairs that they try.
 pub mod candidates;
 mod lowest;
 mod passing;
 
 use abelian::BOARD;
 use abelian::Listed;
+use abelian::Needed;
 use abelian::Outcome;
 use abelian::Refusal;
 use board::count_open;
 use board::ending::end_pairs;
 use board::write_open;
+use candidates::number_of_periods;
 use candidates::try_candidates;
 use words::check_word;
 use words::prefix_counts;
 ghost use mathlib.Core.Path.{_≡_};
 ghost use Prim.Native.Nat.{_≤_};
 ghost use Rattle.abelian.specs.Words.{longest};
-ghost use Rattle.abelian.specs.Answers.{answeredListed};
-ghost use Rattle.abelian.specs.Calls.{plainListing, skippingListing};
+ghost use Rattle.abelian.specs.Answers.{answeredListed, answeredNeeded};
+ghost use Rattle.abelian.specs.Calls.{plainListing, skippingListing, periodCount};
 ghost use Rattle.listers.specs.OpenListing.{openListing};
 
 // Lists the open pairs of a board that are in range for n. Counted before the first word is written, so that a refusal leaves the slice
@@ -59,4 +61,27 @@ pub fn list_skipping(word: &[u8], out: &mut [u32]) -> Listed
     let mut board = [0u8; BOARD];
     let trials = try_candidates(word, &mut board);
     list_open(&board, word.len(), trials, out)
+}
+
+// How many words the plain lister writes, found as it finds them.
+pub fn count_plain(word: &[u8]) -> Needed
+    ensures { λ r. ⌜ answeredNeeded r ≡ periodCount (now (word .entry)) ⌝ }
+{
+    if let Outcome::Refused(refusal) = check_word(word) {
+        return Needed::Refused(refusal);
+    }
+    let counts = prefix_counts(word);
+    let mut board = [0u8; BOARD];
+    end_pairs(word, &counts, &mut board);
+    Needed::Words(count_open(&board, word.len()))
+}
+
+// How many words the skipping lister writes, found as it finds them.
+pub fn count_skipping(word: &[u8]) -> Needed
+    ensures { λ r. ⌜ answeredNeeded r ≡ periodCount (now (word .entry)) ⌝ }
+{
+    if let Outcome::Refused(refusal) = check_word(word) {
+        return Needed::Refused(refusal);
+    }
+    Needed::Words(number_of_periods(word))
 }

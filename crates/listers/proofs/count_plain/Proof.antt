@@ -1,0 +1,69 @@
+-- `listers::count_plain` meets its contract: it is refused for its word, or counts the pairs that are left open on a board of zeros, which are the Abelian periods.
+-- Assumes nothing.
+use mathlib.Core.Path.{refl, ap, _∙_}
+use mathlib.Core.List.{List}
+use Prim.Native.Nat.{ℕ, _≤_}
+use lib.ListN.{length}
+use lib.Dec.{T}
+use borrow.Author.Needs.{needs}
+use Rattle.abelian.specs.Words.{longest, ofLetters}
+use Rattle.abelian.specs.Trackers.{boardSize, openPairs}
+use Rattle.abelian.specs.Calls.{periodCount}
+use Rattle.words.proofs.Listings.{refused-count, accepted-word, accepted-count}
+use Rattle.listers.proofs.Listings.{zeros, ended-periods, open-count}
+use Rattle.listers.proofs.count_plain.Statement.{statement}
+use Rattle.listers.proofs.count_plain.Tie as tie
+
+check-word-requires : tie.Need-check-word-requires
+check-word-requires c κs = search needs
+
+enum-known-refusal : tie.Need-enum-known-refusal
+enum-known-refusal c = search needs
+
+returns : tie.Need-returns
+unfolding periodCount
+returns c = refused-count _ (c .before .before .before .check-word .ensures) _ (c .before .refusal .given .1)
+
+enum-told : tie.Need-enum-told
+enum-told c = search needs
+
+-- the word has been accepted
+module _ (c : tie.After-enum-told) where
+  abbrev word : List ℕ
+  word = c .before .before .before .before .args .word .now
+
+  may : T (ofLetters word) × (length word ≤ longest)
+  may = accepted-word word (c .before .before .check-word .ensures) (c .enum-told .given .1)
+
+prefix-counts-requires : tie.Need-prefix-counts-requires
+prefix-counts-requires c κs = may c
+
+end-pairs-requires : tie.Need-end-pairs-requires
+unfolding boardSize
+end-pairs-requires c κs =
+    let told = c .before .before .before in
+    (record { all = may told .0; short = may told .1; rows = c .before .before .prefix-counts .ensures }, refl)
+
+count-open-requires : tie.Need-count-open-requires
+count-open-requires c κs = let told = c .before .before .before .before .before in may told .1
+
+returns-2 : tie.Need-returns-2
+unfolding periodCount zeros boardSize
+returns-2 c =
+    let ended = c .before .before in
+    let told = ended .before .before .before .before in
+    accepted-count (word told) (told .before .before .check-word .ensures) (told .enum-told .given .1) _
+    (c .count-open .ensures ∙ open-count (word told) _ (ap (openPairs (length (word told))) (ended .end-pairs .ensures .1) ∙ ended-periods (word told) (may told .1)))
+
+pub count-plain-spec : {M : Type 1} → statement M
+count-plain-spec =
+    tie.close
+    (tie.spec
+    check-word-requires
+    enum-known-refusal
+    returns
+    enum-told
+    prefix-counts-requires
+    end-pairs-requires
+    count-open-requires
+    returns-2)
