@@ -5,6 +5,7 @@ mod hands;
 mod output;
 mod starts;
 
+use abelian::Needed;
 use abelian::Outcome;
 use abelian::Refusal;
 use abelian::Wrote;
@@ -18,8 +19,8 @@ ghost use Prim.Native.Nat.{ℕ, _≤_};
 ghost use lib.ListN.{length};
 ghost use Rattle.abelian.specs.Words.{longest};
 ghost use Rattle.abelian.specs.Runs.{runWords};
-ghost use Rattle.abelian.specs.Answers.{answeredWrote};
-ghost use Rattle.abelian.specs.Calls.{runListing};
+ghost use Rattle.abelian.specs.Answers.{answeredWrote, answeredNeeded};
+ghost use Rattle.abelian.specs.Calls.{runListing, runCount};
 
 // Places enough for the runs of every word: a bound and not a maximum. No two runs of one block length start one block apart, so that at most half of the
 // candidates of two blocks in a row are starts, and a run takes two places. No word is known to need as many.
@@ -48,4 +49,17 @@ pub fn list_runs(word: &[u8], out: &mut [u32]) -> Wrote
     }
     write_runs(word, &table, &marks, out);
     Wrote::Words(needed)
+}
+
+// How many words the runs of the word take, two each. No hand is looked for.
+pub fn count_runs(word: &[u8]) -> Needed
+    ensures { λ r. ⌜ answeredNeeded r ≡ runCount (now (word .entry)) ⌝ }
+{
+    if let Outcome::Refused(refusal) = words::check_word(word) {
+        return Needed::Refused(refusal);
+    }
+    let table = words::prefix_counts(word);
+    let mut marks = [0u8; CANDIDATES];
+    mark_squares(word, &table, &mut marks);
+    Needed::Words(count_words(word, &marks))
 }

@@ -5,6 +5,7 @@ pub mod marks;
 mod output;
 
 use abelian::LONGEST;
+use abelian::Needed;
 use abelian::Outcome;
 use abelian::Refusal;
 use abelian::Wrote;
@@ -16,8 +17,8 @@ ghost use lib.Dec.{T};
 ghost use lib.ListN.{length};
 ghost use Rattle.abelian.specs.Words.{longest, ofLetters};
 ghost use Rattle.abelian.specs.Squares.{squareWords};
-ghost use Rattle.abelian.specs.Answers.{answeredWrote};
-ghost use Rattle.abelian.specs.Calls.{squareListing};
+ghost use Rattle.abelian.specs.Answers.{answeredWrote, answeredNeeded};
+ghost use Rattle.abelian.specs.Calls.{squareListing, squareCount};
 
 // The candidates of the longest word, of which no word has more.
 pub const CANDIDATES: usize = (LONGEST / 2) * (LONGEST / 2);
@@ -40,7 +41,7 @@ pub fn list_squares(word: &[u8], out: &mut [u32]) -> Wrote
 }
 
 // The number of squares of a word that may be taken. For the crates above.
-pub fn count_squares(word: &[u8]) -> usize
+pub fn number_of_squares(word: &[u8]) -> usize
     requires { ⌜ T (ofLetters (now word)) ⌝ }
     requires { ⌜ length (now word) ≤ longest ⌝ }
     ensures { λ r. ⌜ r ≡ length (squareWords (now (word .entry))) ⌝ }
@@ -48,4 +49,14 @@ pub fn count_squares(word: &[u8]) -> usize
     let counts = words::prefix_counts(word);
     let mut marks = [0u8; CANDIDATES];
     mark_squares(word, &counts, &mut marks)
+}
+
+// How many squares the word has.
+pub fn count_squares(word: &[u8]) -> Needed
+    ensures { λ r. ⌜ answeredNeeded r ≡ squareCount (now (word .entry)) ⌝ }
+{
+    if let Outcome::Refused(refusal) = words::check_word(word) {
+        return Needed::Refused(refusal);
+    }
+    Needed::Words(number_of_squares(word))
 }
