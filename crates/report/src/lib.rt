@@ -4,6 +4,7 @@ mod answers;
 mod parts;
 
 use abelian::BOARD;
+use abelian::Needed;
 use abelian::Outcome;
 use abelian::Refusal;
 use abelian::Wrote;
@@ -12,8 +13,8 @@ use parts::write_parts;
 use squares::CANDIDATES;
 use words::check_word;
 ghost use mathlib.Core.Path.{_≡_};
-ghost use Rattle.abelian.specs.Answers.{answeredWrote};
-ghost use Rattle.abelian.specs.Calls.{reporting};
+ghost use Rattle.abelian.specs.Answers.{answeredWrote, answeredNeeded};
+ghost use Rattle.abelian.specs.Calls.{reporting, reportCount};
 
 // The most full periods of a word: each divides the word's length, and no number up to 240 has more divisors than 240.
 const FULL_PERIODS: usize = 20;
@@ -36,4 +37,14 @@ pub fn report(word: &[u8], out: &mut [u32]) -> Wrote
     }
     let written = write_parts(word, out);
     Wrote::Words(written)
+}
+
+// How many words the report of the word has: its parts are counted, and none is written.
+pub fn count_report(word: &[u8]) -> Needed
+    ensures { λ r. ⌜ answeredNeeded r ≡ reportCount (now (word .entry)) ⌝ }
+{
+    if let Outcome::Refused(refusal) = check_word(word) {
+        return Needed::Refused(refusal);
+    }
+    Needed::Words(words_needed(word))
 }

@@ -3,12 +3,12 @@ use crate::answers::listed_words;
 use crate::answers::scaled_words;
 use crate::answers::wrote_words;
 use covers::cover_length;
-use full_periods::count_full;
 use full_periods::list_full_scaled;
-use listers::candidates::count_periods;
+use full_periods::number_of_full_periods;
+use listers::candidates::number_of_periods;
 use listers::list_skipping;
-use squares::count_squares;
 use squares::list_squares;
+use squares::number_of_squares;
 ghost use mathlib.Core.Path.{_≡_};
 ghost use Prim.Native.Nat.{_≤_};
 ghost use lib.Dec.{T, ltb};
@@ -45,9 +45,9 @@ pub(crate) fn words_needed(word: &[u8]) -> usize
     requires { ⌜ length (now word) ≤ longest ⌝ }
     ensures { λ r. ⌜ r ≡ length (reportWords (now (word .entry))) ⌝ }
 {
-    let full = count_full(word);
-    let periods = count_periods(word);
-    let squares = count_squares(word);
+    let full = number_of_full_periods(word);
+    let periods = number_of_periods(word);
+    let squares = number_of_squares(word);
     1 + full + periods + squares
 }
 

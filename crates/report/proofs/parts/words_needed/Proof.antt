@@ -5,24 +5,24 @@ use borrow.Author.Needs.{needs}
 use Rattle.abelian.specs.Words.{longest}
 use Rattle.abelian.specs.Trackers.{boardSize}
 use Rattle.report.specs.Places.{longestReport}
-use Rattle.report.proofs.Lengths.{report-length, report-places}
+use Rattle.report.proofs.Lengths.{parts-length, report-places}
 use Rattle.report.proofs.parts.words_needed.Statement.{statement}
 use Rattle.report.proofs.parts.words_needed.Tie as tie
 
-few : (c : tie.After-count-squares) → 1 + c .before .before .count-full .result + c .before .count-periods .result + c .count-squares .result
+few : (c : tie.After-number-of-squares) → 1 + c .before .before .number-of-full-periods .result + c .before .number-of-periods .result + c .number-of-squares .result
     ≤ longestReport
 few c =
     let start = c .before .before .before .before in
-    omega (arith, report-length (start .args .word .now), report-places (start .args .word .now) (start .pre .1))
+    omega (arith, parts-length (start .args .word .now), report-places (start .args .word .now) (start .pre .1))
 
-count-full-requires : tie.Need-count-full-requires
-count-full-requires c κs = search needs
+number-of-full-periods-requires : tie.Need-number-of-full-periods-requires
+number-of-full-periods-requires c κs = search needs
 
-count-periods-requires : tie.Need-count-periods-requires
-count-periods-requires c κs = search needs
+number-of-periods-requires : tie.Need-number-of-periods-requires
+number-of-periods-requires c κs = search needs
 
-count-squares-requires : tie.Need-count-squares-requires
-count-squares-requires c κs = search needs
+number-of-squares-requires : tie.Need-number-of-squares-requires
+number-of-squares-requires c κs = search needs
 
 add-result : tie.Need-add-result
 unfolding longestReport longest boardSize
@@ -37,15 +37,15 @@ unfolding longestReport longest boardSize
 add-result-3 c = omega (arith, few c)
 
 returns : tie.Need-returns
-returns c = omega (arith, report-length (c .before .before .before .before .args .word .now))
+returns c = omega (arith, parts-length (c .before .before .before .before .args .word .now))
 
 pub words-needed-spec : {M : Type 1} → statement M
 words-needed-spec =
     tie.close
     (tie.spec
-    count-full-requires
-    count-periods-requires
-    count-squares-requires
+    number-of-full-periods-requires
+    number-of-periods-requires
+    number-of-squares-requires
     add-result
     add-result-2
     add-result-3
