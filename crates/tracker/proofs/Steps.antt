@@ -10,8 +10,8 @@ use borrow.Author.Tests.{lt-ltb, le-ltb, eq-eqb, ne-eqb}
 use Rattle.abelian.specs.Words.{alphabetSize, longest, isLetter}
 use Rattle.abelian.specs.Output.{periodWord, fill}
 use Rattle.abelian.specs.Refusals.{firstHolding, trackerRefusal}
-use Rattle.abelian.specs.Answers.{refusing, accepting, writing}
-use Rattle.abelian.specs.Trackers.{Step, stepUnless, damaged, added, adding, shortened, takingBack, openPairs, trackerListing}
+use Rattle.abelian.specs.Answers.{refusing, accepting, writing, counting}
+use Rattle.abelian.specs.Trackers.{Step, stepUnless, damaged, added, adding, shortened, takingBack, openPairs, trackerListing, trackerCount}
 use Rattle.abelian.specs.declared.Refusal.{Refusal}
 use Rattle.abelian.specs.declared.Refusal.the-variants.{NotALetter, SliceTooShort, TrackerFull, TrackerEmpty, TrackerDamaged}
 use Rattle.abelian.specs.declared.Tracker.{Tracker}
@@ -94,3 +94,14 @@ module _ (t : Tracker) (out : List ℕ) where
     pub listing-written : words ≤ length out → trackerListing t out ≡ listed t words (fill (map periodWord (openPairs (t .len) (t .board))) out)
     unfolding trackerListing trackerRefusal firstHolding stepUnless
     listing-written h = rw (n, d, length-map, le-ltb (length out) (length (openPairs (t .len) (t .board))) (omega arith))
+
+-- ---- count
+
+module _ (t : Tracker) where
+  pub count-damaged : damaged t ≡ true → trackerCount t ≡ refused t TrackerDamaged []
+  unfolding trackerCount trackerRefusal firstHolding stepUnless
+  count-damaged d = rw d
+
+  pub count-accepted : damaged t ≡ false → {words : ℕ} → words ≡ length (openPairs (t .len) (t .board)) → trackerCount t ≡ record { tracker = t; answer = counting words }
+  unfolding trackerCount trackerRefusal firstHolding stepUnless
+  count-accepted d n = rw (n, d, length-map)

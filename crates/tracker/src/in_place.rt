@@ -6,6 +6,7 @@ use crate::letters::remove_last;
 use crate::letters::store_letter;
 use abelian::BOARD;
 use abelian::LONGEST;
+use abelian::Needed;
 use abelian::Outcome;
 use abelian::Refusal;
 use abelian::Wrote;
@@ -13,8 +14,8 @@ use board::count_open;
 use board::write_open;
 use words::is_letter;
 ghost use mathlib.Core.Path.{_≡_};
-ghost use Rattle.abelian.specs.Answers.{answeredOutcome, answeredWrote};
-ghost use Rattle.abelian.specs.Trackers.{adding, takingBack, clearing, trackerListing};
+ghost use Rattle.abelian.specs.Answers.{answeredOutcome, answeredWrote, answeredNeeded};
+ghost use Rattle.abelian.specs.Trackers.{adding, takingBack, clearing, trackerListing, trackerCount};
 ghost use Rattle.tracker.specs.Fields.{ofFields, asStep};
 
 // Adds a letter at the end, and ends the open pairs that are no Abelian period of the letters then held.
@@ -88,4 +89,15 @@ pub fn list<'a>(
     }
     write_open(board, len, out);
     Wrote::Words(words)
+}
+
+// How many pairs a list would write. The fields are lent for reading alone.
+pub fn count<'a>(len: usize, bytes: &'a [u8; LONGEST], board: &'a [u8; BOARD]) -> Needed
+    ensures { λ r. ⌜ asStep (ofFields len (now (bytes .entry)) (now (board .entry))) (answeredNeeded r)
+        ≡ trackerCount (ofFields len (now (bytes .entry)) (now (board .entry))) ⌝ }
+{
+    if is_damaged(len, bytes) {
+        return Needed::Refused(Refusal::TrackerDamaged);
+    }
+    Needed::Words(count_open(board, len))
 }

@@ -1,17 +1,18 @@
-// The tracker's calls by value: a fresh tracker, and four calls that take the tracker and return it as the call leaves it, beside the answer; a
+// The tracker's calls by value: a fresh tracker, and five calls that take the tracker and return it as the call leaves it, beside the answer; a
 // refused call returns it as it came. An add, a take-back and a clear take the tracker apart, make the call in place on its fields, and build it
-// again; a list lends the fields for reading. The contracts hold of every tracker, also of one that no calls have made.
+// again; a list and a count lend the fields for reading. The contracts hold of every tracker, also of one that no calls have made.
 pub mod in_place;
 mod letters;
 
 use abelian::BOARD;
 use abelian::LONGEST;
+use abelian::Needed;
 use abelian::Outcome;
 use abelian::Tracker;
 use abelian::Wrote;
 ghost use mathlib.Core.Path.{_≡_};
-ghost use Rattle.abelian.specs.Trackers.{freshTracker, adding, takingBack, clearing, trackerListing};
-ghost use Rattle.tracker.specs.Steps.{stepOf, listingOf};
+ghost use Rattle.abelian.specs.Trackers.{freshTracker, adding, takingBack, clearing, trackerListing, trackerCount};
+ghost use Rattle.tracker.specs.Steps.{stepOf, listingOf, countingOf};
 
 // The tracker after an add, a take-back or a clear, and what the call answers.
 pub struct Stepped {
@@ -23,6 +24,12 @@ pub struct Stepped {
 pub struct Listing {
     pub tracker: Tracker,
     pub wrote: Wrote,
+}
+
+// The tracker after a count, and what the call answers.
+pub struct Counting {
+    pub tracker: Tracker,
+    pub needed: Needed,
 }
 
 // A fresh tracker, all zero: no letters, and no pair has ended.
@@ -88,4 +95,12 @@ pub fn list(tracker: Tracker, out: &mut [u32]) -> Listing
 {
     let wrote = in_place::list(tracker.len, &tracker.bytes, &tracker.board, out);
     Listing { tracker, wrote }
+}
+
+// How many pairs a list would write.
+pub fn count(tracker: Tracker) -> Counting
+    ensures { λ r. ⌜ countingOf r ≡ trackerCount tracker ⌝ }
+{
+    let needed = in_place::count(tracker.len, &tracker.bytes, &tracker.board);
+    Counting { tracker, needed }
 }
