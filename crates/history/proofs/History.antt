@@ -86,7 +86,7 @@ unfolding machine lettersUnless firstHolding
 listed-machine w out l = rw (le-ltb (length out) (length (periodWords w)) l)
 
 pub history : (calls : List Call) → History calls
-unfolding trackerHolding plainListing skippingListing scaledListing
+unfolding machine trackerHolding plainListing skippingListing scaledListing
 history calls =
     let w : List ℕ = wordOf calls in
     let i : IsWord w = word-of calls in
@@ -100,6 +100,7 @@ history calls =
       unreached = unreached w;
       same = λ others e. tracker-of-word others ∙ ap trackerHolding e ∙ sym t;
       listed = λ out l. rw t (step-machine w (Call.list out) i ∙ listed-machine w out l);
+      counted = rw t (step-machine w Call.count i);
       definition = λ x. periods-definition w x (i .letters);
       rising = periods-rising w;
       plain = λ out l. listing-written w out (periodWords w) (plainTrials w) 0 0 a l;

@@ -8,18 +8,18 @@ use native.Mathlib.Omega.{arith}
 use lib.ListN.{length, take, getD, length-map, length-take}
 use lib.Seq.{take-suc, take-length}
 use lib.Dec.{ltb}
-use borrow.Author.Tests.{eq-eqb, ne-eqb}
+use borrow.Author.Tests.{lt-ltb, eq-eqb, ne-eqb}
 use Rattle.abelian.specs.Lists.{one}
 use Rattle.abelian.specs.Refusals.{firstHolding, numberOf}
 use Rattle.abelian.specs.Answers.{Answer, answeredOutcome}
 use Rattle.abelian.specs.Calls.{periodWords}
 use Rattle.abelian.specs.Trackers.{Step, adding, takingBack, clearing, trackerListing}
 use Rattle.abelian.specs.declared.Refusal.{Refusal}
-use Rattle.abelian.specs.declared.Refusal.the-variants.{TooLong, NotALetter, SliceTooShort, TrackerFull, TrackerEmpty, TrackerDamaged, PairOutOfRange}
 use Rattle.abelian.specs.declared.Outcome.{Outcome}
 use Rattle.abelian.specs.declared.Outcome.the-variants.{Refused}
 use Rattle.abelian.specs.declared.Tracker.{Tracker}
 use Rattle.abelian.proofs.Tests.{decided}
+use Rattle.abelian.proofs.Refusals.{refusal-number}
 use Rattle.history.specs.Machine.{Call, lettersUnless, machine}
 use Rattle.history.specs.Calls.{lettersAfter, machineAnswers, step, wordOf}
 use Rattle.history.specs.TrackerHolding.{trackerHolding}
@@ -45,17 +45,8 @@ module _ (t : Tracker) (b : ℕ) where
 -- ---- refusals
 
 -- the number of a refusal is not 0
-refusal-counts : (r : Refusal) → one (ltb 0 (numberOf r)) ≡ 1
-refusal-counts TooLong = refl
-refusal-counts (NotALetter position) = refl
-refusal-counts (SliceTooShort needed) = refl
-refusal-counts TrackerFull = refl
-refusal-counts TrackerEmpty = refl
-refusal-counts TrackerDamaged = refl
-refusal-counts PairOutOfRange = refl
-
 pub refused-counts : (o : Outcome) (r : Refusal) → o ≡ Refused r → one (ltb 0 (answeredOutcome o .number)) ≡ 1
-refused-counts o r e = ap (λ (q : Outcome). one (ltb 0 (answeredOutcome q .number))) e ∙ refusal-counts r
+refused-counts o r e = ap (λ (q : Outcome). one (ltb 0 (answeredOutcome q .number))) e ∙ ap one (lt-ltb 0 (numberOf r) (refusal-number r))
 
 one-le : (b : Bool) → one b ≤ 1
 one-le true = omega arith

@@ -7,7 +7,7 @@ use mathlib.Core.Option.{Option, none, some}
 use mathlib.Core.List.{List, [], _∷_, _++_, List·Memᴰ·not-nil}
 use Prim.Native.Nat.{ℕ, suc, _-_, _≤_, _<_}
 use native.Mathlib.Omega.{arith}
-use lib.ListN.{length, take, getD, length-append}
+use lib.ListN.{length, take, getD, length-append, length-map}
 use lib.Seq.{take-suc, take-length, length-take-le}
 use lib.Dec.{T, eqb}
 use borrow.Author.Tests.{eqb-false}
@@ -15,11 +15,12 @@ use Rattle.abelian.specs.Words.{alphabetSize, longest, isLetter}
 use Rattle.abelian.specs.Refusals.{condition, firstHolding, trackerRefusal}
 use Rattle.abelian.specs.Answers.{accepting}
 use Rattle.abelian.specs.Calls.{periodWords}
-use Rattle.abelian.specs.Trackers.{Step, damaged, stepUnless, shortened, adding, takingBack, clearing, trackerListing}
+use Rattle.abelian.specs.Trackers.{Step, damaged, stepUnless, shortened, adding, takingBack, clearing, trackerListing, trackerCount}
 use Rattle.abelian.specs.declared.Refusal.{Refusal}
 use Rattle.abelian.specs.declared.Refusal.the-variants.{NotALetter, TrackerFull, TrackerEmpty}
 use Rattle.abelian.specs.declared.Tracker.{Tracker}
 use Rattle.abelian.proofs.Counts.{inside-letters, letters-last, letters-take}
+use Rattle.abelian.proofs.Refusals.{some-none}
 use Rattle.history.specs.Machine.{Call, Letters, lettersUnless, machine}
 use Rattle.history.specs.Calls.{step}
 use Rattle.history.specs.History.{IsWord}
@@ -46,10 +47,6 @@ unless-word : (o : Option Refusal) (out w : List ℕ) (m : Letters) → IsWord w
 unfolding lettersUnless
 unless-word none out w m i h = h refl
 unless-word (some r) out w m i h = i
-
--- a refusal is not none
-some-none : {r : Refusal} → some r ≡ none → ⊥
-some-none e = let z : _≡_ {A = ℕ} 0 1 = cc in omega arith
 
 -- an accepted add has a letter, and room for it; an accepted take-back has a letter to take
 accepted-add : (letter full : Bool) → firstHolding (condition (not letter) (NotALetter 1) ∷ condition full TrackerFull ∷ []) ≡ none → T letter × (full ≡ false)
@@ -121,12 +118,17 @@ module _ (w : List ℕ) (i : IsWord w) where
       rw (whole, open-periods w (i .letters) (i .fits))
       (unless-moved _ out w _ _ (λ e. refl))
 
+  count-step : step (trackerHolding w) Call.count ≡ moved (machine w Call.count)
+  unfolding step machine trackerCount trackerRefusal firstHolding stepUnless trackerHolding
+  count-step = rw (whole, open-periods w (i .letters) (i .fits), length-map)
+
 pub step-machine : (w : List ℕ) (c : Call) → IsWord w → step (trackerHolding w) c ≡ moved (machine w c)
 unfolding step machine clearing
 step-machine w (Call.add b) i = add-step w i b
 step-machine w Call.takeBack i = take-back-step w i
 step-machine w Call.clear i = ap (λ (t : Tracker). record { tracker = t; answer = accepting }) fresh-empty
 step-machine w (Call.list out) i = list-step w i out
+step-machine w Call.count i = count-step w i
 
 pub machine-word : (w : List ℕ) (c : Call) → IsWord w → IsWord (machine w c .letters)
 unfolding machine
@@ -134,3 +136,4 @@ machine-word w (Call.add b) i = add-word w i b
 machine-word w Call.takeBack i = unless-word _ [] w _ i (λ e. shorter-word w i)
 machine-word w Call.clear i = empty-word
 machine-word w (Call.list out) i = unless-word _ out w _ i (λ e. i)
+machine-word w Call.count i = i

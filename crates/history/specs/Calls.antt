@@ -2,7 +2,7 @@
 use mathlib.Core.List.{List, [], _∷_}
 use Prim.Native.Nat.{ℕ}
 use Rattle.abelian.specs.Answers.{Answer}
-use Rattle.abelian.specs.Trackers.{Step, freshTracker, adding, takingBack, clearing, trackerListing}
+use Rattle.abelian.specs.Trackers.{Step, freshTracker, adding, takingBack, clearing, trackerListing, trackerCount}
 use Rattle.abelian.specs.declared.Tracker.{Tracker}
 use Rattle.history.specs.Machine.{Call, machine}
 
@@ -15,12 +15,13 @@ unfoldable pub machineAnswers : List ℕ → List Call → List Answer
 machineAnswers w [] = []
 machineAnswers w (c ∷ cs) = machine w c .answer ∷ machineAnswers (machine w c .letters) cs
 
--- What a call does to a tracker, by the definitions that the contracts of `add`, `take_back`, `clear` and `list` name.
+-- What a call does to a tracker, by the definitions that the contracts of `add`, `take_back`, `clear`, `list` and `count` name.
 unfoldable pub step : Tracker → Call → Step
 step t (Call.add b) = adding t b
 step t Call.takeBack = takingBack t
 step t Call.clear = clearing t
 step t (Call.list out) = trackerListing t out
+step t Call.count = trackerCount t
 
 -- the tracker after the calls, and its answers to them, from the tracker t on
 unfoldable pub trackerAfter : Tracker → List Call → Tracker

@@ -1,4 +1,4 @@
--- The claim of demand 3, over a list of calls from a fresh tracker.
+-- The claim of demand 3, over a list of calls from a fresh tracker; counts (C-12) may stand among them.
 use mathlib.Core.Path.{_≡_}
 use mathlib.Core.Logic.{_↔_}
 use mathlib.Core.Bool.{Bool, false, _&&_}
@@ -12,6 +12,7 @@ use Rattle.abelian.specs.Periods.{Pair, inRange, periods, AbelianPeriod, Rising
 use Rattle.abelian.specs.Trials.{plainTrials, skippingTrials}
 use Rattle.abelian.specs.FullPeriods.{divides, fullPeriods, scale, scaledGap}
 use Rattle.abelian.specs.EndedLengths.{endedLength, boardOf}
+use Rattle.abelian.specs.Answers.{counting}
 use Rattle.abelian.specs.Calls.{writingWords, periodWords, fullWords, plainListing, skippingListing, scaledListing}
 use Rattle.abelian.specs.Trackers.{freshTracker}
 use Rattle.abelian.specs.declared.Tracker.{Tracker}
@@ -36,7 +37,7 @@ fullPair n x = eqb (x .head) 0 && divides (x .period) n
 pub record Claim (calls : List Call) (w : List ℕ) (t : Tracker) : Type 0 where
   -- what the machine holds is a word
   pub word : IsWord w
-  -- every call's answer is the machine's: number, value, number written, and the slice afterwards
+  -- every call's answer is the machine's: number, value, number of words, and the slice afterwards
   pub answers : trackerAnswers freshTracker calls ≡ machineAnswers [] calls
   -- the tracker holds the machine's word
   pub holds : HoldsWord t w
@@ -48,6 +49,8 @@ pub record Claim (calls : List Call) (w : List ℕ) (t : Tracker) : Type 0 where
   pub same : (others : List Call) → wordOf others ≡ w → trackerFrom others ≡ t
   -- a list call made then, with places enough, writes the word's Abelian periods
   pub listed : (out : List ℕ) → length (periodWords w) ≤ length out → step t (Call.list out) ≡ record { tracker = t; answer = writingWords (periodWords w) 0 0 0 out }
+  -- a count made then gives their number
+  pub counted : step t Call.count ≡ record { tracker = t; answer = counting (length (periods w)) }
   -- a pair is among these periods exactly where Definition 1's record holds
   pub definition : (x : Pair) → List·Memᴰ x (periods w) ↔ AbelianPeriod w x
   -- each once, rising by p and then h
