@@ -7,8 +7,8 @@
  *
  *     cc program.c $(pkg-config --cflags --libs luffbutton)
  *
- * The archive is for x86-64 Linux (System V calls, 64-bit size_t). It has fifteen functions that can be linked, all with the prefix luff_,
- * and needs two of the C library: memcpy and memset. This header is for C99 or later and for C++.
+ * The archive is for x86-64 Linux (System V calls, 64-bit size_t). It has twenty-three functions that can be linked, all with the prefix
+ * luff_, and needs two of the C library: memcpy and memset. This header is for C99 or later and for C++.
  *
  * TERMS. A word is n bytes, each a letter: LUFF_FIRST_LETTER and the bytes behind it, LUFF_LETTERS in all, a to p. It has LUFF_LONGEST
  * letters at most and may have none. Positions count from 1. A stretch is letters of the word that stand side by side, or no letters; its
@@ -49,16 +49,22 @@
  * changed. There is one exception: a luff_tracker_replay whose list is refused with 3 has still made its calls. Its tracker is as they
  * leave it, and `refused` says how many of them were refused.
  *
+ * COUNTS. Each list call has a count beside it, luff_count_plain for luff_list_plain and so on, which says how many words that call writes.
+ * It finds them in the same way, takes no places and writes nothing. It is refused where the list is, for the same reason, but never for
+ * length. Where it is accepted, the list is accepted with as many places as it says or more, and with fewer it is refused with 3. So a
+ * caller that allocates asks for the count and then makes the list.
+ *
  * WHAT A CALLER OWES. No pointer is NULL, also not that of an empty word or of no places: pass any address of the program's, such as that
  * of a variable of the pointer's type. A pointer leads to as many bytes or places as are said, aligned as its type asks. What a call may
- * write, which is the places and, but for a list, the tracker, overlaps nothing else that is passed to the same call. What stands in the
- * places before a call does not matter.
+ * write, which is the places and, but for a list or a count, the tracker, overlaps nothing else that is passed to the same call. What
+ * stands in the places before a call does not matter.
  *
  * AT THE SAME TIME. The library allocates nothing, keeps nothing between calls and takes no lock. Calls may run at the same time where
- * none writes what another reads or writes: calls on different places and trackers, and also several lists of one tracker, since a list
- * only reads it. An interrupt or a signal handler may make any call, on data that the interrupted program is not using in a call; it needs
- * the stack given below, and the processor's SSE registers, as other code of its platform does. The functions use the 128 bytes below the
- * stack pointer, as System V allows: a signal spares them, and an interrupt handler without an operating system needs a stack of its own.
+ * none writes what another reads or writes: calls on different places and trackers, and also several lists and counts of one tracker,
+ * which only read it. An interrupt or a signal handler may make any call, on data that the interrupted program is not using in a call; it
+ * needs the stack given below, and the processor's SSE registers, as other code of its platform does. The functions use the 128 bytes below
+ * the stack pointer, as System V allows: a signal spares them, and an interrupt handler without an operating system needs a stack of its
+ * own.
  *
  * STACK AND TIME. The macros LUFF_STACK_.. below limit the bytes of stack that a call takes beyond the word, the places and the tracker that
  * it is lent. They are measured and not proved: examples/c/stack_use.c makes each call in several ways and fails above them. How the time
@@ -73,7 +79,8 @@
  *     luff_find_cover                               0.9 to 1.0
  *     luff_list_full_scaled, luff_judge             0.4 to 1.0
  *
- * A luff_tracker_list goes through the entries of the pairs in range for the letters held, about n * n / 4 of them. A luff_tracker_take_back
+ * A count takes no longer than its list. A luff_tracker_list and a luff_tracker_count go through the entries of the pairs in range for the
+ * letters held, about n * n / 4 of them. A luff_tracker_take_back
  * goes through the whole board, and a luff_tracker_fresh or luff_tracker_clear writes the whole tracker, whatever n is. The time of a
  * luff_tracker_replay grows with the number of its calls, each of which takes as long as an add at 240 letters at most, and one list comes
  * behind them; that number has no bound.
@@ -92,7 +99,7 @@ extern "C" {
 #endif
 
 /* The version of this interface. It rises with each change of an answer or of a layout, and with each function that joins. */
-#define LUFF_VERSION 3
+#define LUFF_VERSION 4
 
 /* The byte of the first letter, a, and how many letters there are. */
 #define LUFF_FIRST_LETTER 97
@@ -117,7 +124,10 @@ extern "C" {
  */
 #define LUFF_BOUND_RUNS 17682
 
-/* The limits on stack, in bytes. LUFF_STACK_TRACKER is for each of a tracker's calls, and LUFF_STACK is the greatest. */
+/*
+ * The limits on stack, in bytes. That of a list or of the report is also its count's, LUFF_STACK_TRACKER is for each of a tracker's calls,
+ * and LUFF_STACK is the greatest.
+ */
 #define LUFF_STACK_JUDGE 4096
 #define LUFF_STACK_LIST_PLAIN 24576
 #define LUFF_STACK_LIST_SKIPPING 28672
@@ -126,7 +136,7 @@ extern "C" {
 #define LUFF_STACK_LIST_SQUARES 20480
 #define LUFF_STACK_LIST_RUNS 24576
 #define LUFF_STACK_FIND_COVER 4096
-#define LUFF_STACK_REPORT 49152
+#define LUFF_STACK_REPORT 32768
 #define LUFF_STACK_TRACKER 12288
 #define LUFF_STACK LUFF_STACK_REPORT
 
@@ -196,6 +206,13 @@ struct luff_wrote {
     size_t refusal;
     size_t value;
     size_t written;
+};
+
+/* The answer of a count. words: how many words the list has, and so how many places it needs. */
+struct luff_counted {
+    size_t refusal;
+    size_t value;
+    size_t words;
 };
 
 /* The answer of a lister of periods. trials: how many pairs it has tried. */
@@ -278,6 +295,15 @@ struct luff_wrote luff_list_runs(const uint8_t *LUFF_RESTRICT word, size_t n, ui
  */
 struct luff_wrote luff_report(const uint8_t *LUFF_RESTRICT word, size_t n, uint32_t *LUFF_RESTRICT out, size_t places);
 
+/* The counts: how many words each of these calls writes, a run's two included. Refusals 1, 2. */
+struct luff_counted luff_count_plain(const uint8_t *word, size_t n);
+struct luff_counted luff_count_skipping(const uint8_t *word, size_t n);
+struct luff_counted luff_count_full(const uint8_t *word, size_t n);
+struct luff_counted luff_count_full_scaled(const uint8_t *word, size_t n);
+struct luff_counted luff_count_squares(const uint8_t *word, size_t n);
+struct luff_counted luff_count_runs(const uint8_t *word, size_t n);
+struct luff_counted luff_count_report(const uint8_t *word, size_t n);
+
 /* Looks for a cover. Refusals 1, 2. */
 struct luff_cover luff_find_cover(const uint8_t *word, size_t n);
 
@@ -314,6 +340,7 @@ struct luff_outcome luff_tracker_take_back_fields(size_t *LUFF_RESTRICT length, 
 struct luff_outcome luff_tracker_clear_fields(size_t *LUFF_RESTRICT length, uint8_t *LUFF_RESTRICT bytes, uint8_t *LUFF_RESTRICT board);
 struct luff_wrote luff_tracker_list_fields(size_t length, const uint8_t *LUFF_RESTRICT bytes, const uint8_t *LUFF_RESTRICT board,
                                            uint32_t *LUFF_RESTRICT out, size_t places);
+struct luff_counted luff_tracker_count_fields(size_t length, const uint8_t *LUFF_RESTRICT bytes, const uint8_t *LUFF_RESTRICT board);
 struct luff_replayed luff_tracker_replay_fields(const uint8_t *LUFF_RESTRICT calls, size_t n, uint32_t *LUFF_RESTRICT out, size_t places,
                                                 size_t *LUFF_RESTRICT length, uint8_t *LUFF_RESTRICT bytes,
                                                 uint8_t *LUFF_RESTRICT board);
@@ -349,6 +376,12 @@ static inline struct luff_outcome luff_tracker_clear(struct luff_tracker *tracke
 static inline struct luff_wrote luff_tracker_list(const struct luff_tracker *tracker, uint32_t *LUFF_RESTRICT out, size_t places)
 {
     return luff_tracker_list_fields(tracker->length, tracker->bytes, tracker->board, out, places);
+}
+
+/* How many words a list would write. The tracker is as it was. Refusal 6. */
+static inline struct luff_counted luff_tracker_count(const struct luff_tracker *tracker)
+{
+    return luff_tracker_count_fields(tracker->length, tracker->bytes, tracker->board);
 }
 
 /*

@@ -92,10 +92,34 @@ static void report(const char *word, size_t places)
     print_list(luff_report(bytes(word), strlen(word), out, places));
 }
 
+/* Prints a count's answer, behind what was printed of the line before. */
+static void print_counted(const char *name, struct luff_counted x)
+{
+    printf(", %s %zu %zu %zu", name, x.refusal, x.value, x.words);
+}
+
+static void count(const char *word)
+{
+    const uint8_t *letters = bytes(word);
+    size_t n = strlen(word);
+    printf("counts %s", word);
+    print_counted("plain", luff_count_plain(letters, n));
+    print_counted("skipping", luff_count_skipping(letters, n));
+    print_counted("full", luff_count_full(letters, n));
+    print_counted("scaled", luff_count_full_scaled(letters, n));
+    print_counted("squares", luff_count_squares(letters, n));
+    print_counted("runs", luff_count_runs(letters, n));
+    print_counted("report", luff_count_report(letters, n));
+    printf("\n");
+}
+
 static void list_tracker(const char *name)
 {
     printf("%s %.*s: list ", name, (int)tracker.length, (const char *)tracker.bytes);
     print_list(luff_tracker_list(&tracker, out, PLACES));
+    printf("%s %.*s", name, (int)tracker.length, (const char *)tracker.bytes);
+    print_counted("count", luff_tracker_count(&tracker));
+    printf("\n");
 }
 
 static void print_outcome(const char *name, struct luff_outcome x)
@@ -142,6 +166,8 @@ int main(void)
     find_cover("aBc");
     report("abb", PLACES);
     report("abb", 4);
+    count("abaababa");
+    count("aBc");
     track();
     replay("-ab!?abb-", PLACES);
     replay("aaaa", 5);

@@ -80,6 +80,41 @@ static void list_runs(void)
     luff_list_runs(word, LUFF_LONGEST, out, way.places);
 }
 
+static void count_plain(void)
+{
+    luff_count_plain(word, LUFF_LONGEST);
+}
+
+static void count_skipping(void)
+{
+    luff_count_skipping(word, LUFF_LONGEST);
+}
+
+static void count_full(void)
+{
+    luff_count_full(word, LUFF_LONGEST);
+}
+
+static void count_full_scaled(void)
+{
+    luff_count_full_scaled(word, LUFF_LONGEST);
+}
+
+static void count_squares(void)
+{
+    luff_count_squares(word, LUFF_LONGEST);
+}
+
+static void count_runs(void)
+{
+    luff_count_runs(word, LUFF_LONGEST);
+}
+
+static void count_report(void)
+{
+    luff_count_report(word, LUFF_LONGEST);
+}
+
 static void find_cover(void)
 {
     luff_find_cover(word, LUFF_LONGEST);
@@ -115,6 +150,11 @@ static void list(void)
     luff_tracker_list(&tracker, out, way.places);
 }
 
+static void count(void)
+{
+    luff_tracker_count(&tracker);
+}
+
 /* The letters of the word, then a take-back, a byte that may be refused, a letter and one more, which is refused. */
 static void replay(void)
 {
@@ -142,11 +182,19 @@ static const struct {
     {"list_runs", list_runs, LUFF_STACK_LIST_RUNS},
     {"find_cover", find_cover, LUFF_STACK_FIND_COVER},
     {"report", report, LUFF_STACK_REPORT},
+    {"count_plain", count_plain, LUFF_STACK_LIST_PLAIN},
+    {"count_skipping", count_skipping, LUFF_STACK_LIST_SKIPPING},
+    {"count_full", count_full, LUFF_STACK_LIST_FULL},
+    {"count_full_scaled", count_full_scaled, LUFF_STACK_LIST_FULL_SCALED},
+    {"count_squares", count_squares, LUFF_STACK_LIST_SQUARES},
+    {"count_runs", count_runs, LUFF_STACK_LIST_RUNS},
+    {"count_report", count_report, LUFF_STACK_REPORT},
     {"fresh", fresh, LUFF_STACK_TRACKER},
     {"add", add, LUFF_STACK_TRACKER},
     {"take_back", take_back, LUFF_STACK_TRACKER},
     {"clear", clear, LUFF_STACK_TRACKER},
     {"list", list, LUFF_STACK_TRACKER},
+    {"count", count, LUFF_STACK_TRACKER},
     {"replay", replay, LUFF_STACK_TRACKER},
 };
 

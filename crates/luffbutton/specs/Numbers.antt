@@ -7,6 +7,7 @@ use Rattle.luffbutton.specs.declared.numbers.LuffVerdict.{LuffVerdict}
 use Rattle.luffbutton.specs.declared.numbers.LuffListed.{LuffListed}
 use Rattle.luffbutton.specs.declared.numbers.LuffScaled.{LuffScaled}
 use Rattle.luffbutton.specs.declared.numbers.LuffWrote.{LuffWrote}
+use Rattle.luffbutton.specs.declared.numbers.LuffCounted.{LuffCounted}
 use Rattle.luffbutton.specs.declared.numbers.LuffCover.{LuffCover}
 use Rattle.luffbutton.specs.declared.numbers.LuffOutcome.{LuffOutcome}
 use Rattle.luffbutton.specs.declared.numbers.LuffReplayed.{LuffReplayed}
@@ -39,6 +40,10 @@ scaledNumbers r out = listAnswer (r .refusal) (r .value) (r .written) 0 (r .s) (
 
 abbrev pub wroteNumbers : LuffWrote → List ℕ → Answer
 wroteNumbers r out = listAnswer (r .refusal) (r .value) (r .written) 0 0 0 out
+
+-- of a count, which has no slice
+abbrev pub countedNumbers : LuffCounted → Answer
+countedNumbers r = listAnswer (r .refusal) (r .value) (r .words) 0 0 0 []
 
 -- of a replay's list
 abbrev pub replayedNumbers : LuffReplayed → List ℕ → Answer

@@ -1,17 +1,19 @@
 // The tracker's calls for C. The caller keeps a tracker as its three fields, the length, the bytes and the board, and lends them to each call,
 // which works on them in place.
+use crate::numbers::LuffCounted;
 use crate::numbers::LuffOutcome;
 use crate::numbers::LuffReplayed;
 use crate::numbers::LuffWrote;
+use crate::numbers::of_needed;
 use crate::numbers::of_outcome;
 use crate::numbers::of_wrote;
 use abelian::BOARD;
 use abelian::LONGEST;
 ghost use mathlib.Core.Path.{_≡_};
-ghost use Rattle.abelian.specs.Trackers.{freshTracker, adding, takingBack, clearing, trackerListing};
+ghost use Rattle.abelian.specs.Trackers.{freshTracker, adding, takingBack, clearing, trackerListing, trackerCount};
 ghost use Rattle.tracker.specs.Fields.{ofFields, asStep};
 ghost use Rattle.history.specs.Replay.{asReplay, replaying};
-ghost use Rattle.luffbutton.specs.Numbers.{outcomeNumbers, wroteNumbers, replayedNumbers};
+ghost use Rattle.luffbutton.specs.Numbers.{outcomeNumbers, wroteNumbers, countedNumbers, replayedNumbers};
 
 // Makes the fields those of a fresh tracker, whatever they were.
 #[no_mangle]
@@ -77,6 +79,19 @@ pub extern "C" fn luff_tracker_list_fields<'a>(
         ≡ trackerListing (ofFields len (now (bytes .entry)) (now (board .entry))) (now (out .entry)) ⌝ }
 {
     of_wrote(tracker::in_place::list(len, bytes, board, out))
+}
+
+// Counts the pairs that a list would write. The fields are read alone.
+#[no_mangle]
+pub extern "C" fn luff_tracker_count_fields<'a>(
+    len: usize,
+    bytes: &'a [u8; LONGEST],
+    board: &'a [u8; BOARD],
+) -> LuffCounted
+    ensures { λ r. ⌜ asStep (ofFields len (now (bytes .entry)) (now (board .entry))) (countedNumbers r)
+        ≡ trackerCount (ofFields len (now (bytes .entry)) (now (board .entry))) ⌝ }
+{
+    of_needed(tracker::in_place::count(len, bytes, board))
 }
 
 // Makes the fields those of a fresh tracker, whatever they were, makes the calls of a log on them, and then one list.

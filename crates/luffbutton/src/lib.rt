@@ -1,6 +1,7 @@
 // The calls for C, and for Rust by way of C: one exported function for each open call, over that call or, of a tracker's, over its form in place. A
 // function returns the answer's numbers as a struct (a fresh tracker has none), promises what the call promises, by the same definitions, and asks
-// nothing of the caller. Here are the calls on a word; the tracker's are in fields.rt.
+// nothing of the caller. Here are the calls on a word but the counts, which are in counts.rt; the tracker's are in fields.rt.
+mod counts;
 mod fields;
 mod numbers;
 

@@ -2,6 +2,7 @@
 // number, or 0 where the call is accepted, and `value` the refusal's value; a number that the answer does not name is 0.
 use abelian::Covered;
 use abelian::Listed;
+use abelian::Needed;
 use abelian::Outcome;
 use abelian::Refusal;
 use abelian::Scaled;
@@ -10,8 +11,8 @@ use abelian::Wrote;
 ghost use mathlib.Core.Path.{_≡_};
 ghost use mathlib.Core.List.{List};
 ghost use Prim.Native.Nat.{ℕ};
-ghost use Rattle.abelian.specs.Answers.{answeredCovered, answeredListed, answeredOutcome, answeredScaled, answeredVerdict, answeredWrote, refusing};
-ghost use Rattle.luffbutton.specs.Numbers.{listAnswer, verdictNumbers, coverNumbers, outcomeNumbers, listedNumbers, scaledNumbers, wroteNumbers};
+ghost use Rattle.abelian.specs.Answers.{answeredCovered, answeredListed, answeredNeeded, answeredOutcome, answeredScaled, answeredVerdict, answeredWrote, refusing};
+ghost use Rattle.luffbutton.specs.Numbers.{listAnswer, verdictNumbers, coverNumbers, outcomeNumbers, listedNumbers, scaledNumbers, wroteNumbers, countedNumbers};
 
 // What the judge answers. `yes` is 1 where the pair is an Abelian period; where it is none, `block` and `letter` are the first failure's.
 #[repr(C)]
@@ -48,6 +49,14 @@ pub struct LuffWrote {
     pub refusal: usize,
     pub value: usize,
     pub written: usize,
+}
+
+// What a count answers: how many words the list has.
+#[repr(C)]
+pub struct LuffCounted {
+    pub refusal: usize,
+    pub value: usize,
+    pub words: usize,
 }
 
 // What the search for a cover answers. `yes` is 1 where there is one, and `length` is then its length.
@@ -210,6 +219,27 @@ pub(crate) fn of_wrote(wrote: Wrote) -> LuffWrote
                 refusal: given.refusal,
                 value: given.value,
                 written: 0,
+            }
+        }
+    }
+}
+
+// The numbers of a count's answer.
+pub(crate) fn of_needed(needed: Needed) -> LuffCounted
+    ensures { λ r. ⌜ countedNumbers r ≡ answeredNeeded needed ⌝ }
+{
+    match needed {
+        Needed::Words(words) => LuffCounted {
+            refusal: 0,
+            value: 0,
+            words,
+        },
+        Needed::Refused(refusal) => {
+            let given = of_refusal(refusal);
+            LuffCounted {
+                refusal: given.refusal,
+                value: given.value,
+                words: 0,
             }
         }
     }
