@@ -5,6 +5,7 @@ use crate::text::say_number;
 use crate::text::say_words;
 use abelian::Covered;
 use abelian::Listed;
+use abelian::Needed;
 use abelian::Outcome;
 use abelian::Refusal;
 use abelian::Scaled;
@@ -53,6 +54,14 @@ pub(crate) fn say_wrote(raw: bool, wrote: Wrote, out: &[u32]) {
     match wrote {
         Wrote::Words(words) => say_words(raw, out, words),
         Wrote::Refused(refusal) => say_refusal(refusal),
+    }
+}
+
+// Prints what a count answered.
+pub(crate) fn say_needed(needed: Needed) {
+    match needed {
+        Needed::Words(words) => say_named(b" counted", words),
+        Needed::Refused(refusal) => say_refusal(refusal),
     }
 }
 

@@ -7,10 +7,11 @@
 //        plain 40:abba      the plain lister on `abba`, with a slice of 40 places; and so `skipping`, `full`, `scaled`, `squares`
 //      runs of 40:abba      the Abelian runs, which are known by f, since s stands for squares
 //       report 40:abba      the report, whose words are printed as the numbers that they are
+//        plain ??:abba      the plain lister's count on `abba`; and so for the others above
 //        cover 00:abba      the search for a cover
 //        judge 04:abba      the judge on the pair of head 0 and period 4; a `*` for one of them is the largest number that there is
 //       replay 40:abb-      the replay of a log of calls
-//        track 40:abb-      a call of the tracker for each byte, and then its list; the tracker is printed after each
+//        track 40:abb-      a call of the tracker for each byte, `=` for its count, and then its list; the tracker is printed after each
 //
 // Any other line is a heading.
 mod answers;

@@ -1,4 +1,5 @@
 // The tracker's calls: a list of calls, one byte each, from a fresh tracker, and each call printed on one line.
+use crate::answers::say_needed;
 use crate::answers::say_outcome;
 use crate::text::begin_line;
 use crate::text::say;
@@ -12,6 +13,7 @@ use history::replay;
 use tracker::Stepped;
 use tracker::add;
 use tracker::clear;
+use tracker::count;
 use tracker::fresh;
 use tracker::list;
 use tracker::take_back;
@@ -87,6 +89,17 @@ fn say_stepped(byte: u8, stepped: Stepped) -> Tracker {
     tracker
 }
 
+// Calls the tracker's count, prints what it answered and the tracker as the call left it, and returns that tracker.
+fn say_counted(tracker: Tracker) -> Tracker {
+    let counting = count(tracker);
+    let after = counting.tracker;
+    let needed = counting.needed;
+    begin_line(b'=');
+    say_needed(needed);
+    say_tracker(after);
+    after
+}
+
 // A tracker that holds 240 times a.
 fn full() -> Tracker {
     Tracker {
@@ -117,14 +130,15 @@ fn reopened(tracker: Tracker) -> Tracker {
     other
 }
 
-// The tracker after a byte of a list of calls. Four bytes stand for no call, but set the tracker by hand: `*` makes it full, `#` sets its
-// length to 241, `_` its first byte to 0, and `0` the entry of (0, 1) to 0.
+// The tracker after a byte of a list of calls. `=` is a count, which a log has not. Four bytes stand for no call, but set the tracker by hand:
+// `*` makes it full, `#` sets its length to 241, `_` its first byte to 0, and `0` the entry of (0, 1) to 0.
 fn run_byte(tracker: Tracker, byte: u8) -> Tracker {
     match byte {
         b'*' => full(),
         b'#' => too_long(tracker),
         b'_' => no_letter(tracker),
         b'0' => reopened(tracker),
+        b'=' => say_counted(tracker),
         _ => say_stepped(byte, call(tracker, byte)),
     }
 }
