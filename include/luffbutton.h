@@ -52,7 +52,8 @@
  * COUNTS. Each list call has a count beside it, luff_count_plain for luff_list_plain and so on, which says how many words that call writes.
  * It finds them in the same way, takes no places and writes nothing. It is refused where the list is, for the same reason, but never for
  * length. Where it is accepted, the list is accepted with as many places as it says or more, and with fewer it is refused with 3. So a
- * caller that allocates asks for the count and then makes the list.
+ * caller that allocates asks for the count and then makes the list. The list finds its words again, and a luff_report with just as many
+ * places counts again too; who can spare the places of the longest list (LUFF_MOST_.., LUFF_BOUND_RUNS) need not ask.
  *
  * WHAT A CALLER OWES. No pointer is NULL, also not that of an empty word or of no places: pass any address of the program's, such as that
  * of a variable of the pointer's type. A pointer leads to as many bytes or places as are said, aligned as its type asks. What a call may
@@ -71,19 +72,18 @@
  * grows was measured from 120 to 240 letters on words of six kinds, that of luff_list_runs also on abba repeated, as n to the power
  * (docs/PERFORMANCE.md, which has the times too):
  *
- *     luff_list_plain, luff_list_skipping           1.8 to 2.3
- *     luff_list_squares, luff_report                1.7 to 1.9
- *     luff_list_runs                                1.8 to 2.6
- *     luff_tracker_add, n being the letters held    1.8 to 1.9
- *     luff_list_full                                0.9 to 1.2
- *     luff_find_cover                               0.9 to 1.0
- *     luff_list_full_scaled, luff_judge             0.4 to 1.0
+ *     luff_list_plain, luff_list_skipping           1.8 to 2.1
+ *     luff_list_squares, luff_report                1.8 to 1.9
+ *     luff_list_runs                                1.9 to 2.7
+ *     luff_tracker_add, n being the letters held    1.8 to 2.0
+ *     luff_list_full                                1.0 to 1.3
+ *     luff_find_cover                               1.0 to 1.1
+ *     luff_list_full_scaled, luff_judge             0.5 to 1.0
  *
- * A count takes no longer than its list. A luff_tracker_list and a luff_tracker_count go through the entries of the pairs in range for the
- * letters held, about n * n / 4 of them. A luff_tracker_take_back
- * goes through the whole board, and a luff_tracker_fresh or luff_tracker_clear writes the whole tracker, whatever n is. The time of a
- * luff_tracker_replay grows with the number of its calls, each of which takes as long as an add at 240 letters at most, and one list comes
- * behind them; that number has no bound.
+ * A count took 0.2 to 1.0 times as long as its list on these words. A luff_tracker_list and a luff_tracker_count go through the entries of
+ * the pairs in range for the letters held, about n * n / 4 of them. A luff_tracker_take_back goes through the whole board, and a
+ * luff_tracker_fresh or luff_tracker_clear writes the whole tracker, whatever n is. The time of a luff_tracker_replay grows with the number
+ * of its calls, each of which takes as long as an add at 240 letters at most, and one list comes behind them; that number has no bound.
  */
 #ifndef LUFFBUTTON_H
 #define LUFFBUTTON_H

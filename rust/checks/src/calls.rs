@@ -8,7 +8,8 @@ pub struct Answer {
     pub number: usize,
     /// The refusal's value.
     pub value: usize,
-    /// The words written by a list call.
+    /// The number of words: of a list call those that it has written, of a count those that the list has. The proved definitions keep
+    /// both under this name.
     pub written: usize,
     /// The pairs that a lister of periods tried.
     pub trials: usize,
@@ -37,11 +38,19 @@ impl Answer {
             ..Answer::default()
         }
     }
+
+    /// The answer of an accepted call that has the number of words alone: every other number is 0.
+    pub fn of_words(written: usize) -> Answer {
+        Answer {
+            written,
+            ..Answer::default()
+        }
+    }
 }
 
-/// The calls of document 01 and of request C-11 with all their numbers, so that one test can be run on the library and on a second
-/// implementation.
-/// A list call writes to `out`; a tracker call but `list` changes the fields.
+/// The calls of document 01 and of the requests C-11 and C-12 with all their numbers, so that one test can be run on the library and on a
+/// second implementation.
+/// A list call writes to `out`; a tracker call but `list` and `count` changes the fields.
 pub trait Calls {
     fn judge(&self, word: &[u8], head: Head, period: Period) -> Answer;
     fn list_plain(&self, word: &[u8], out: &mut [u32]) -> Answer;
@@ -52,10 +61,18 @@ pub trait Calls {
     fn list_runs(&self, word: &[u8], out: &mut [u32]) -> Answer;
     fn find_cover(&self, word: &[u8]) -> Answer;
     fn report(&self, word: &[u8], out: &mut [u32]) -> Answer;
+    fn count_plain(&self, word: &[u8]) -> Answer;
+    fn count_skipping(&self, word: &[u8]) -> Answer;
+    fn count_full(&self, word: &[u8]) -> Answer;
+    fn count_full_scaled(&self, word: &[u8]) -> Answer;
+    fn count_squares(&self, word: &[u8]) -> Answer;
+    fn count_runs(&self, word: &[u8]) -> Answer;
+    fn count_report(&self, word: &[u8]) -> Answer;
     fn fresh(&self, tracker: &mut Fields);
     fn add(&self, tracker: &mut Fields, letter: u8) -> Answer;
     fn take_back(&self, tracker: &mut Fields) -> Answer;
     fn clear(&self, tracker: &mut Fields) -> Answer;
     fn list(&self, tracker: &Fields, out: &mut [u32]) -> Answer;
+    fn count(&self, tracker: &Fields) -> Answer;
     fn replay(&self, tracker: &mut Fields, calls: &[u8], out: &mut [u32]) -> Answer;
 }

@@ -124,3 +124,12 @@ pub const TIMED_WORDS: [(&str, Word); 6] = [
     ("random of 4", |n| Generator::new(4).uniform(n, 4)),
     ("random of 16", |n| Generator::new(16).uniform(n, 16)),
 ];
+
+/// The words on which a call is timed: the six, and for runs also one that has many.
+pub fn timed_words(call: &str) -> Vec<(&'static str, Word)> {
+    let mut words = TIMED_WORDS.to_vec();
+    if call.ends_with("_runs") {
+        words.push(("abba repeated", abba));
+    }
+    words
+}

@@ -1,6 +1,7 @@
 //! The proved library, with every number of its answers.
 use crate::calls::{Answer, Calls};
-use luffbutton::numbers::{self, Cover, Listed, Outcome, Replayed, Scaled, Verdict, Wrote};
+use luffbutton::numbers::{self, Counted, Cover, Listed, Outcome};
+use luffbutton::numbers::{Replayed, Scaled, Verdict, Wrote};
 use luffbutton::{Fields, Head, Period};
 
 /// The library behind the C interface.
@@ -20,6 +21,7 @@ macro_rules! answers {
 answers! {
     Outcome {}
     Wrote { written: written }
+    Counted { words: written }
     Listed { written: written, trials: trials }
     Scaled { written: written, s: s, t: t }
     Verdict { yes: yes, block: block, letter: letter }
@@ -64,6 +66,34 @@ impl Calls for Library {
         numbers::report(word, out).into()
     }
 
+    fn count_plain(&self, word: &[u8]) -> Answer {
+        numbers::count_plain(word).into()
+    }
+
+    fn count_skipping(&self, word: &[u8]) -> Answer {
+        numbers::count_skipping(word).into()
+    }
+
+    fn count_full(&self, word: &[u8]) -> Answer {
+        numbers::count_full(word).into()
+    }
+
+    fn count_full_scaled(&self, word: &[u8]) -> Answer {
+        numbers::count_full_scaled(word).into()
+    }
+
+    fn count_squares(&self, word: &[u8]) -> Answer {
+        numbers::count_squares(word).into()
+    }
+
+    fn count_runs(&self, word: &[u8]) -> Answer {
+        numbers::count_runs(word).into()
+    }
+
+    fn count_report(&self, word: &[u8]) -> Answer {
+        numbers::count_report(word).into()
+    }
+
     fn fresh(&self, tracker: &mut Fields) {
         numbers::fresh(tracker);
     }
@@ -82,6 +112,10 @@ impl Calls for Library {
 
     fn list(&self, tracker: &Fields, out: &mut [u32]) -> Answer {
         numbers::list(tracker, out).into()
+    }
+
+    fn count(&self, tracker: &Fields) -> Answer {
+        numbers::count(tracker).into()
     }
 
     fn replay(&self, tracker: &mut Fields, calls: &[u8], out: &mut [u32]) -> Answer {

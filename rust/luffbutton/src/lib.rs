@@ -5,7 +5,7 @@
 //! A word is a slice of letters, the bytes `a` to `p`, [`LONGEST`] at most. Every call takes any input; what it cannot do it
 //! refuses, with a reason of its own type ([`Refusal`]). A refused call changes nothing; only a [`Tracker::replay`] whose list is
 //! refused has still made its calls. Heads and periods are types of their own, answers are enums and structs, and a tracker is made
-//! and changed by its calls alone. Nothing is allocated. A call takes up to 48 KB of stack, one on a
+//! and changed by its calls alone. Nothing is allocated. A call takes up to 32 KB of stack, one on a
 //! tracker up to 12 KB (the header's `LUFF_STACK_..`, measured), and a [`Tracker`] has 14,768 bytes.
 //!
 //! A list is written to the first places of a lent slice of 32-bit words, and [`findings`] reads it ([`runs`] a list of runs):
@@ -22,6 +22,21 @@
 //! let written = tracker.list(&mut out).unwrap();
 //! let (head, period) = (Head(0), Period(2));
 //! assert!(findings(&out[..written]).eq([Finding::Period { head, period }]));
+//! ```
+//!
+//! Each list call has a count beside it, such as [`count_report`] for [`report`] and [`Tracker::count`] for [`Tracker::list`]. It says
+//! how many words the list has, and so how many places it needs. Where a count is refused, its list is too, for the same reason. So a
+//! program that allocates asks first and lists then:
+//!
+//! ```
+//! use luffbutton::{count_report, findings, report};
+//!
+//! let word = b"abb";
+//! let needed = count_report(word).unwrap();
+//! let mut out = vec![0; needed];
+//! assert_eq!(report(word, &mut out), Ok(needed));
+//! // Its head, one full period, two periods and one square.
+//! assert_eq!(findings(&out).count(), 5);
 //! ```
 #![no_std]
 #![deny(missing_docs)]
@@ -42,5 +57,7 @@ pub use run::{runs, Run};
 pub use tracker::Tracker;
 pub use vocabulary::{Fields, Head, Period, BOARD, BOUND_RUNS, CLEAR, FIRST_LETTER, LETTERS};
 pub use vocabulary::{LONGEST, MOST_FULL, MOST_PERIODS, MOST_REPORT, MOST_SQUARES, TAKE_BACK};
-pub use words::{find_cover, judge, list_full, list_full_scaled, list_plain, list_runs};
-pub use words::{list_skipping, list_squares, report, Cover, Listed, Scaled, Verdict};
+pub use words::{count_full, count_full_scaled, count_plain, count_report, count_runs};
+pub use words::{count_skipping, count_squares, find_cover, judge, list_full, list_full_scaled};
+pub use words::{list_plain, list_runs, list_skipping, list_squares, report};
+pub use words::{Cover, Listed, Scaled, Verdict};

@@ -29,6 +29,18 @@ pub struct Wrote {
     pub written: usize,
 }
 
+/// The numbers of a count.
+#[repr(C)]
+#[derive(Clone, Copy, Debug, PartialEq, Eq)]
+pub struct Counted {
+    /// The refusal's number, 0 where the call is accepted.
+    pub refusal: usize,
+    /// The refusal's value.
+    pub value: usize,
+    /// The words that the list has.
+    pub words: usize,
+}
+
 /// The numbers of a lister of periods.
 #[repr(C)]
 #[derive(Clone, Copy, Debug, PartialEq, Eq)]
@@ -106,6 +118,9 @@ pub struct Replayed {
 /// A function of the archive that lists something of a word.
 type ListCall<Numbers> = unsafe extern "C" fn(*const u8, usize, *mut u32, usize) -> Numbers;
 
+/// A function of the archive that counts the words of such a list.
+type CountCall = unsafe extern "C" fn(*const u8, usize) -> Counted;
+
 extern "C" {
     fn luff_judge(word: *const u8, n: usize, head: Head, period: Period) -> Verdict;
     fn luff_list_plain(word: *const u8, n: usize, out: *mut u32, places: usize) -> Listed;
@@ -115,6 +130,13 @@ extern "C" {
     fn luff_list_squares(word: *const u8, n: usize, out: *mut u32, places: usize) -> Wrote;
     fn luff_list_runs(word: *const u8, n: usize, out: *mut u32, places: usize) -> Wrote;
     fn luff_report(word: *const u8, n: usize, out: *mut u32, places: usize) -> Wrote;
+    fn luff_count_plain(word: *const u8, n: usize) -> Counted;
+    fn luff_count_skipping(word: *const u8, n: usize) -> Counted;
+    fn luff_count_full(word: *const u8, n: usize) -> Counted;
+    fn luff_count_full_scaled(word: *const u8, n: usize) -> Counted;
+    fn luff_count_squares(word: *const u8, n: usize) -> Counted;
+    fn luff_count_runs(word: *const u8, n: usize) -> Counted;
+    fn luff_count_report(word: *const u8, n: usize) -> Counted;
     fn luff_find_cover(word: *const u8, n: usize) -> Cover;
     fn luff_tracker_fresh_fields(
         length: *mut usize,
@@ -144,6 +166,11 @@ extern "C" {
         out: *mut u32,
         places: usize,
     ) -> Wrote;
+    fn luff_tracker_count_fields(
+        length: usize,
+        bytes: *const [u8; LONGEST],
+        board: *const [u8; BOARD],
+    ) -> Counted;
     fn luff_tracker_replay_fields(
         calls: *const u8,
         n: usize,
@@ -160,6 +187,13 @@ fn list_by<Numbers>(call: ListCall<Numbers>, word: &[u8], out: &mut [u32]) -> Nu
     // SAFETY: `call` is one of the seven declared above (this function is private, and no other is handed to it), and both slices are
     // valid for their lengths.
     unsafe { call(word.as_ptr(), word.len(), out.as_mut_ptr(), out.len()) }
+}
+
+/// Calls one of the archive's seven functions that count the words of a list of a word.
+fn count_by(call: CountCall, word: &[u8]) -> Counted {
+    // SAFETY: `call` is one of the seven declared above (this function is private, and no other is handed to it), and the word is valid
+    // for its length.
+    unsafe { call(word.as_ptr(), word.len()) }
 }
 
 /// Judges a pair.
@@ -203,6 +237,41 @@ pub fn report(word: &[u8], out: &mut [u32]) -> Wrote {
     list_by(luff_report, word, out)
 }
 
+/// Counts the words of [`list_plain`].
+pub fn count_plain(word: &[u8]) -> Counted {
+    count_by(luff_count_plain, word)
+}
+
+/// Counts the words of [`list_skipping`].
+pub fn count_skipping(word: &[u8]) -> Counted {
+    count_by(luff_count_skipping, word)
+}
+
+/// Counts the words of [`list_full`].
+pub fn count_full(word: &[u8]) -> Counted {
+    count_by(luff_count_full, word)
+}
+
+/// Counts the words of [`list_full_scaled`].
+pub fn count_full_scaled(word: &[u8]) -> Counted {
+    count_by(luff_count_full_scaled, word)
+}
+
+/// Counts the words of [`list_squares`].
+pub fn count_squares(word: &[u8]) -> Counted {
+    count_by(luff_count_squares, word)
+}
+
+/// Counts the words of [`list_runs`], two for each run.
+pub fn count_runs(word: &[u8]) -> Counted {
+    count_by(luff_count_runs, word)
+}
+
+/// Counts the words of [`report`].
+pub fn count_report(word: &[u8]) -> Counted {
+    count_by(luff_count_report, word)
+}
+
 /// Looks for a cover.
 pub fn find_cover(word: &[u8]) -> Cover {
     // SAFETY: the word is valid for its length.
@@ -243,6 +312,12 @@ pub fn list(tracker: &Fields, out: &mut [u32]) -> Wrote {
     let (bytes, board) = (&tracker.bytes, &tracker.board);
     // SAFETY: the fields are lent for reading, and the slice is valid for its length.
     unsafe { luff_tracker_list_fields(tracker.length, bytes, board, out.as_mut_ptr(), out.len()) }
+}
+
+/// Counts the words of [`list`].
+pub fn count(tracker: &Fields) -> Counted {
+    // SAFETY: the fields are lent for reading.
+    unsafe { luff_tracker_count_fields(tracker.length, &tracker.bytes, &tracker.board) }
 }
 
 /// Makes the tracker fresh, makes a call on it for each byte, and lists once.

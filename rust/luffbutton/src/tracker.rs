@@ -2,7 +2,7 @@
 use crate::numbers;
 use crate::refusal::Refusal;
 use crate::vocabulary::Fields;
-use crate::words::written;
+use crate::words::{counted, written};
 use core::fmt;
 
 /// A word that grows and shrinks by letters, with its Abelian periods known after every call. It takes 14,768 bytes:
@@ -64,6 +64,12 @@ impl Tracker {
     /// Writes the Abelian periods of the letters held, by p and then h, and returns how many: refusal 3.
     pub fn list(&self, out: &mut [u32]) -> Result<usize, Refusal> {
         written(numbers::list(&self.fields, out))
+    }
+
+    /// How many words [`list`](Tracker::list) writes, and so how many places it needs: the number of the Abelian periods of the letters
+    /// held. It is not refused: 6 alone would be a reason, and no tracker made by its calls is damaged.
+    pub fn count(&self) -> Result<usize, Refusal> {
+        counted(numbers::count(&self.fields))
     }
 
     /// The letters held.

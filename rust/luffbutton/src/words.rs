@@ -125,6 +125,48 @@ pub(crate) fn written(answer: numbers::Wrote) -> Result<usize, Refusal> {
     Ok(answer.written)
 }
 
+/// How many words [`list_plain`] writes of this word, and so how many places it needs: refusals 1, 2.
+pub fn count_plain(word: &[u8]) -> Result<usize, Refusal> {
+    counted(numbers::count_plain(word))
+}
+
+/// How many words [`list_skipping`] writes of this word, and so how many places it needs: refusals 1, 2.
+pub fn count_skipping(word: &[u8]) -> Result<usize, Refusal> {
+    counted(numbers::count_skipping(word))
+}
+
+/// How many words [`list_full`] writes of this word, and so how many places it needs: refusals 1, 2.
+pub fn count_full(word: &[u8]) -> Result<usize, Refusal> {
+    counted(numbers::count_full(word))
+}
+
+/// How many words [`list_full_scaled`] writes of this word, and so how many places it needs: refusals 1, 2. s and T are the list's alone.
+pub fn count_full_scaled(word: &[u8]) -> Result<usize, Refusal> {
+    counted(numbers::count_full_scaled(word))
+}
+
+/// How many words [`list_squares`] writes of this word, and so how many places it needs: refusals 1, 2.
+pub fn count_squares(word: &[u8]) -> Result<usize, Refusal> {
+    counted(numbers::count_squares(word))
+}
+
+/// How many words [`list_runs`] writes of this word, two for each run, and so how many places it needs: refusals 1, 2.
+pub fn count_runs(word: &[u8]) -> Result<usize, Refusal> {
+    counted(numbers::count_runs(word))
+}
+
+/// How many words [`report`] writes of this word, its head included, and so how many places it needs: refusals 1, 2. A report into fewer
+/// than [`MOST_REPORT`](crate::MOST_REPORT) places counts again before it writes.
+pub fn count_report(word: &[u8]) -> Result<usize, Refusal> {
+    counted(numbers::count_report(word))
+}
+
+/// How many words a count has found, or its refusal.
+pub(crate) fn counted(answer: numbers::Counted) -> Result<usize, Refusal> {
+    Refusal::check(answer.refusal, answer.value)?;
+    Ok(answer.words)
+}
+
 /// Looks for a cover: refusals 1, 2.
 pub fn find_cover(word: &[u8]) -> Result<Cover, Refusal> {
     let answer = numbers::find_cover(word);

@@ -1,6 +1,6 @@
-//! A second implementation, written from document 01 and, for runs, from request C-11 alone, in the plainest way: every block is counted
-//! anew, every definition is tried word by word, and the tracker's machine is a list of letters. It shares no route with the library,
-//! which goes by prefix counts and boards.
+//! A second implementation, written from document 01 and, for runs and counts, from the requests C-11 and C-12 alone, in the plainest way:
+//! every block is counted anew, every definition is tried word by word, and the tracker's machine is a list of letters. It shares no route
+//! with the library, which goes by prefix counts and boards.
 mod covers;
 mod full_periods;
 mod periods;
@@ -77,10 +77,7 @@ fn write(words: &[u32], out: &mut [u32]) -> Answer {
         return Answer::refused(3, words.len());
     }
     out[..words.len()].copy_from_slice(words);
-    Answer {
-        written: words.len(),
-        ..Answer::default()
-    }
+    Answer::of_words(words.len())
 }
 
 /// A list call on a word: refusals 1, 2, 3, else the list with the numbers that `numbers` adds to an accepted answer.
@@ -99,6 +96,11 @@ fn list_call(
     } else {
         answer
     }
+}
+
+/// A count: every refusal of the list call but 3, else the number of the list's words.
+fn count_call(word: &[u8], words: impl Fn(&[u8]) -> usize) -> Answer {
+    word_refusal(word).unwrap_or_else(|| Answer::of_words(words(word)))
 }
 
 impl Calls for Reference {
@@ -178,6 +180,36 @@ impl Calls for Reference {
         list_call(word, out, report_words, |answer| answer)
     }
 
+    fn count_plain(&self, word: &[u8]) -> Answer {
+        count_call(word, |word| periods(word).len())
+    }
+
+    fn count_skipping(&self, word: &[u8]) -> Answer {
+        count_call(word, |word| periods(word).len())
+    }
+
+    fn count_full(&self, word: &[u8]) -> Answer {
+        count_call(word, |word| full_periods(word).len())
+    }
+
+    fn count_full_scaled(&self, word: &[u8]) -> Answer {
+        count_call(word, |word| full_periods(word).len())
+    }
+
+    fn count_squares(&self, word: &[u8]) -> Answer {
+        count_call(word, |word| squares(word).len())
+    }
+
+    fn count_runs(&self, word: &[u8]) -> Answer {
+        count_call(word, |word| 2 * runs(word).len())
+    }
+
+    fn count_report(&self, word: &[u8]) -> Answer {
+        count_call(word, |word| {
+            1 + full_periods(word).len() + periods(word).len() + squares(word).len()
+        })
+    }
+
     fn fresh(&self, tracker: &mut Fields) {
         *tracker = Fields::zero();
     }
@@ -197,6 +229,10 @@ impl Calls for Reference {
 
     fn list(&self, tracker: &Fields, out: &mut [u32]) -> Answer {
         tracker::list(tracker, out)
+    }
+
+    fn count(&self, tracker: &Fields) -> Answer {
+        tracker::count(tracker)
     }
 
     fn replay(&self, tracker: &mut Fields, calls: &[u8], out: &mut [u32]) -> Answer {

@@ -46,6 +46,11 @@ impl Machine {
     pub fn list(&self, out: &mut [u32]) -> Answer {
         write(&period_words(&periods(&self.letters)), out)
     }
+
+    /// The number of its letters' periods; the letters are kept.
+    pub fn count(&self) -> Answer {
+        Answer::of_words(periods(&self.letters).len())
+    }
 }
 
 /// A word that changes at its end, with every pair judged once on each of its prefixes, so that the ended lengths of a long word can
@@ -140,18 +145,31 @@ pub fn take_back(tracker: &mut Fields) -> Answer {
     Answer::default()
 }
 
-/// List by fields: refusals 6, 3, else the pairs in range whose entry is 0.
-pub fn list(tracker: &Fields, out: &mut [u32]) -> Answer {
-    if damaged(tracker) {
-        return Answer::refused(6, 0);
-    }
+/// The pairs in range whose entry is 0.
+fn open_pairs(tracker: &Fields) -> Vec<Pair> {
     let mut open = Vec::new();
     for (entry, &pair) in tracker.board.iter().zip(board_pairs()) {
         if *entry == 0 && in_range(tracker.length, pair) {
             open.push(pair);
         }
     }
-    write(&period_words(&open), out)
+    open
+}
+
+/// List by fields: refusals 6, 3, else the pairs in range whose entry is 0.
+pub fn list(tracker: &Fields, out: &mut [u32]) -> Answer {
+    if damaged(tracker) {
+        return Answer::refused(6, 0);
+    }
+    write(&period_words(&open_pairs(tracker)), out)
+}
+
+/// Count by fields: refusal 6, else the number of these pairs.
+pub fn count(tracker: &Fields) -> Answer {
+    if damaged(tracker) {
+        return Answer::refused(6, 0);
+    }
+    Answer::of_words(open_pairs(tracker).len())
 }
 
 /// A replay: the calls on the machine, then one list. The tracker afterwards holds the machine's word and its ended lengths; the

@@ -1,6 +1,7 @@
 //! Damaged inputs and slices of every length: what is refused, with which numbers, and that a refusal changes nothing. A long word's
 //! last place, slices around the needed length and the guards behind them are where a call could read or write too far.
-use crate::support::{compare_list, lent, marks, places_enough, seeded, shown, LIST_CALLS};
+use crate::support::{compare_list, lent, marks, places_enough, seeded, shown};
+use crate::support::{COUNT_CALLS, LIST_CALLS};
 use checks::calls::{Answer, Calls};
 use checks::generator::{fibonacci, Generator};
 use checks::library::Library;
@@ -21,6 +22,10 @@ fn assert_refused(word: &[u8], due: Answer) {
                 "{name} of the reference"
             );
         }
+    }
+    for (name, count) in COUNT_CALLS {
+        assert_eq!(count(&Library, word), due, "{name}");
+        assert_eq!(count(&Reference, word), due, "{name} of the reference");
     }
     assert_eq!(Library.find_cover(word), due, "find_cover");
     assert_eq!(
@@ -186,6 +191,9 @@ fn slices_for_the_longest_lists() {
     // Of runs, by length d of a block, as many as starts up to d from which two blocks fit: 3,240 up to d = 80, and 1,600 above.
     let runs = 2 * (3240 + 1600);
     let needed = [14520, 14520, 20, 20, 14400, runs, 28941];
+    for ((name, count), needed) in COUNT_CALLS.into_iter().zip(needed) {
+        assert_eq!(count(&Library, &word), Answer::of_words(needed), "{name}");
+    }
     for ((name, call), needed) in LIST_CALLS.into_iter().zip(needed) {
         for places in [0, 1, needed - 1] {
             let (answer, out) = lent(places, |out| call(&Library, &word, out));

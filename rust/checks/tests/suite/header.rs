@@ -2,7 +2,7 @@
 use crate::support::lent;
 use checks::calls::{Answer, Calls};
 use checks::library::Library;
-use luffbutton::numbers::{Cover, Listed, Outcome, Replayed, Scaled, Verdict, Wrote};
+use luffbutton::numbers::{Counted, Cover, Listed, Outcome, Replayed, Scaled, Verdict, Wrote};
 use luffbutton::{runs, Fields, Period, Refusal, Run, BOARD, BOUND_RUNS, CLEAR, FIRST_LETTER};
 use luffbutton::{LETTERS, LONGEST, MOST_FULL, MOST_PERIODS, MOST_REPORT, MOST_SQUARES, TAKE_BACK};
 use std::mem::{offset_of, size_of};
@@ -12,8 +12,9 @@ const HEADER: &str = include_str!("../../../../include/luffbutton.h");
 /// The root file of the crate runs.
 const RUNS: &str = include_str!("../../../../crates/runs/src/lib.rt");
 
-/// Where the Rust crate declares the functions.
+/// Where the Rust crate declares the functions, and its page.
 const NUMBERS: &str = include_str!("../../../luffbutton/src/numbers.rs");
+const PAGE: &str = include_str!("../../../luffbutton/src/lib.rs");
 
 /// The number that stands behind the name, in a `#define` or in an enum.
 fn number(name: &str) -> usize {
@@ -91,24 +92,95 @@ macro_rules! assert_numbers {
     };
 }
 
-/// The functions that the header declares and does not define inline.
-fn declared() -> Vec<&'static str> {
-    let answers = |line: &&str| line.starts_with("struct luff_") || line.starts_with("void luff_");
-    let name = |line: &'static str| line.split_once('(')?.0.rsplit(' ').next();
-    let mut names: Vec<&str> = HEADER.lines().filter(answers).filter_map(name).collect();
-    names.sort_unstable();
-    names
+/// The text with one space for each stretch of spaces and line breaks.
+fn on_one_line(text: &str) -> String {
+    let words: Vec<&str> = text.split_whitespace().collect();
+    words.join(" ")
+}
+
+/// The functions that the header declares and does not define inline, without LUFF_RESTRICT.
+fn declared() -> Vec<String> {
+    let begins = |opening: &'static str| HEADER.match_indices(opening).map(|(at, _)| at);
+    let declarations = begins("\nstruct luff_").chain(begins("\nvoid luff_"));
+    let texts = declarations.filter_map(|at| HEADER[at..].split(';').next());
+    let functions = texts.filter(|text| text.contains('(') && !text.contains('{'));
+    let mut found: Vec<String> = functions
+        .map(|text| on_one_line(&text.replace("LUFF_RESTRICT ", "")))
+        .collect();
+    found.sort_unstable();
+    found
+}
+
+/// A type of the Rust declarations as the header writes it, up to the name that follows.
+fn in_c(rust: &str) -> String {
+    if let Some(lent) = rust.strip_prefix("*const ") {
+        return format!("const {}*", in_c(lent));
+    }
+    if let Some(lent) = rust.strip_prefix("*mut ") {
+        return format!("{}*", in_c(lent));
+    }
+    match rust {
+        "usize" => "size_t ".to_string(),
+        "u32" => "uint32_t ".to_string(),
+        "u8" | "[u8 LONGEST]" | "[u8 BOARD]" => "uint8_t ".to_string(),
+        named => format!("struct luff_{} ", named.to_lowercase()),
+    }
+}
+
+/// A function's declaration in Rust as the header writes it.
+fn prototype(rust: &str) -> String {
+    let (name, rest) = rust.split_once('(').expect("a function");
+    let (arguments, returned) = rest.rsplit_once(')').expect("its arguments");
+    let argument = |text: &str| {
+        let (name, kind) = text.trim().split_once(": ")?;
+        Some(in_c(kind) + name)
+    };
+    let arguments: Vec<String> = arguments.split(',').filter_map(argument).collect();
+    let returned = match returned.trim().strip_prefix("-> ") {
+        Some(answer) => in_c(answer),
+        None => "void ".to_string(),
+    };
+    format!("{returned}{}({})", name.trim(), arguments.join(", "))
+}
+
+/// The functions that the Rust crate declares, as the header writes them. The semicolons left are those between the functions.
+fn declared_in_rust() -> Vec<String> {
+    let (_, behind) = NUMBERS.split_once("\nextern \"C\" {").expect("a block");
+    let (block, _) = behind.split_once("\n}\n").expect("its end");
+    let functions = block.replace("[u8; ", "[u8 ");
+    let functions = functions.split(';').map(on_one_line);
+    let mut found: Vec<String> = functions
+        .filter_map(|text| Some(prototype(text.strip_prefix("fn ")?)))
+        .collect();
+    found.sort_unstable();
+    found
 }
 
 #[test]
 fn functions() {
-    let name = |line: &'static str| line.trim().strip_prefix("fn luff_")?.split('(').next();
-    let names = NUMBERS.lines().filter_map(name);
-    let mut in_rust: Vec<String> = names.map(|name| format!("luff_{name}")).collect();
-    in_rust.sort_unstable();
-    assert_eq!(declared(), in_rust);
-    assert!(HEADER.contains(" It has fifteen functions "));
-    assert_eq!(in_rust.len(), 15);
+    assert_eq!(declared(), declared_in_rust());
+    assert!(HEADER.contains(" It has twenty-three functions "));
+    assert_eq!(declared().len(), 23);
+}
+
+/// Beside each list call on a word the header has a count, which takes the word alone; a tracker's is inline, as its list is.
+#[test]
+fn counts() {
+    let declared = declared();
+    let list = "(const uint8_t *word, size_t n, uint32_t *out, size_t places)";
+    let lists = declared.iter().filter_map(|text| text.strip_suffix(list));
+    let names: Vec<&str> = lists
+        .filter_map(|text| text.split("luff_").last())
+        .collect();
+    assert_eq!(names.len(), 7);
+    for name in names {
+        let listed = name.strip_prefix("list_").unwrap_or(name);
+        let count =
+            format!("struct luff_counted luff_count_{listed}(const uint8_t *word, size_t n)");
+        assert!(declared.contains(&count), "{count}");
+    }
+    let inline = "struct luff_counted luff_tracker_count(const struct luff_tracker *tracker)";
+    assert!(HEADER.contains(&format!("\nstatic inline {inline}\n")));
 }
 
 /// The crates are versions 0.V of the header's version V.
@@ -122,6 +194,7 @@ fn versions() {
 fn answers() {
     assert_numbers!("luff_outcome", Outcome, refusal, value);
     assert_numbers!("luff_wrote", Wrote, refusal, value, written);
+    assert_numbers!("luff_counted", Counted, refusal, value, words);
     assert_numbers!("luff_listed", Listed, refusal, value, written, trials);
     assert_numbers!("luff_scaled", Scaled, refusal, value, written, s, t);
     assert_numbers!("luff_verdict", Verdict, refusal, value, yes, block, letter);
@@ -159,11 +232,21 @@ fn sizes() {
     assert_eq!(number("LUFF_CALL_CLEAR"), usize::from(CLEAR));
 }
 
-/// The limits on stack that the Rust crate's page gives: 48 KB for any call, and 12 KB for one on a tracker.
+/// The limits on stack that the Rust crate's page gives are the header's: one for any call, and one for a call on a tracker. Counts have
+/// none of their own.
 #[test]
 fn stacks() {
-    assert_eq!(number("LUFF_STACK_REPORT"), 48 * 1024);
-    assert_eq!(number("LUFF_STACK_TRACKER"), 12 * 1024);
+    let page = PAGE.replace("\n//! ", " ");
+    let any = number("LUFF_STACK_REPORT");
+    let tracker = number("LUFF_STACK_TRACKER");
+    let due = format!(
+        " A call takes up to {} KB of stack, one on a tracker up to {} KB ",
+        any / 1024,
+        tracker / 1024
+    );
+    assert!(page.contains(&due), "{due}");
+    assert_eq!((any % 1024, tracker % 1024), (0, 0));
+    assert!(HEADER.contains("#define LUFF_STACK LUFF_STACK_REPORT\n"));
     let limits: Vec<&str> = HEADER
         .lines()
         .filter_map(|line| line.strip_prefix("#define "))
@@ -173,7 +256,7 @@ fn stacks() {
         .collect();
     assert_eq!(limits.len(), 10);
     for name in limits {
-        assert!(number(name) <= 48 * 1024, "{name}");
+        assert!(number(name) <= any, "{name}");
     }
 }
 

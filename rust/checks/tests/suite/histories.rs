@@ -1,7 +1,7 @@
 //! Random lists of tracker calls: after every call the library's answer is the machine's, and its tracker holds the machine's word with
 //! the ended lengths of every pair.
 use crate::records::Call;
-use crate::support::{assert_same_fields, lent, not_a_letter, seeded, Shown};
+use crate::support::{assert_same_fields, lent, not_a_letter, seeded, step, Shown};
 use checks::calls::{Answer, Calls};
 use checks::generator::Generator;
 use checks::library::Library;
@@ -16,6 +16,8 @@ struct Compared {
     prefixes: Prefixes,
     /// How many calls each number had for its answer.
     answers: [usize; 8],
+    /// How many of the calls were counts.
+    counts: usize,
     /// The calls so far, shown where a test fails.
     shown: Shown,
 }
@@ -30,6 +32,7 @@ impl Compared {
             machine: Machine::default(),
             prefixes: Prefixes::default(),
             answers: [0; 8],
+            counts: 0,
             shown: Shown("calls:".to_string()),
         }
     }
@@ -62,13 +65,20 @@ impl Compared {
                 lent(places, |out| Reference.list(fields, out)),
                 lent(places, |out| Library.list(library, out)),
             ),
+            Call::Count => (
+                none(machine.count()),
+                none(Reference.count(fields)),
+                none(Library.count(library)),
+            ),
         };
         assert_eq!(stepped, due, "{call:?} by fields");
         assert_eq!(answer, due, "{call:?}");
-        if answer.0.number != 0 {
+        let reads = matches!(call, Call::List(_) | Call::Count);
+        if reads || answer.0.number != 0 {
             assert_same_fields(&self.library, &before);
         }
         self.answers[answer.0.number] += 1;
+        self.counts += usize::from(matches!(call, Call::Count));
         self.compare_trackers();
     }
 
@@ -101,9 +111,9 @@ fn adds(generator: &mut Generator, n: usize) -> Vec<Call> {
     word.into_iter().map(Call::Add).collect()
 }
 
-/// A few calls of one kind: adds, take-backs, lists with places enough or not, bytes that are no letters, now and then a clear.
+/// A few calls of one kind: adds, take-backs, lists with places enough or not, counts, bytes that are no letters, now and then a clear.
 fn some_calls(generator: &mut Generator) -> Vec<Call> {
-    match generator.below(12) {
+    match generator.below(14) {
         0..=4 => adds(generator, 24),
         5 | 6 => vec![Call::TakeBack; 1 + generator.below(8)],
         7 => vec![Call::TakeBack; 40],
@@ -112,6 +122,7 @@ fn some_calls(generator: &mut Generator) -> Vec<Call> {
             let few = generator.below(40);
             vec![Call::List(generator.pick(&[0, few, BOARD]))]
         }
+        11 | 12 => vec![Call::Count],
         _ if generator.once_in(4) => vec![Call::Clear],
         _ => vec![Call::List(BOARD)],
     }
@@ -121,7 +132,7 @@ fn some_calls(generator: &mut Generator) -> Vec<Call> {
 #[test]
 fn random_lists_of_calls() {
     let mut generator = seeded(40);
-    let mut answers = [0; 8];
+    let (mut answers, mut counts) = ([0; 8], 0);
     for _ in 0..60 {
         let mut compared = Compared::fresh();
         let mut made = 0;
@@ -133,7 +144,9 @@ fn random_lists_of_calls() {
         for (all, here) in answers.iter_mut().zip(compared.answers) {
             *all += here;
         }
+        counts += compared.counts;
     }
+    assert!(counts >= 100, "{counts} counts were made");
     for number in [0, 2, 3, 5] {
         assert!(
             answers[number] >= 100,
@@ -153,8 +166,9 @@ fn full_trackers() {
             let missing = LONGEST + 3 - compared.machine.letters.len();
             let (word, _) = generator.cyclic(missing, k);
             compared.step_all(word.into_iter().map(Call::Add));
-            compared.step_all([Call::List(BOARD), Call::List(3)]);
+            compared.step_all([Call::List(BOARD), Call::Count, Call::List(3)]);
             compared.step_all([Call::TakeBack; 40]);
+            compared.step(Call::Count);
         }
         assert_eq!(compared.answers[4], 6);
     }
@@ -196,6 +210,26 @@ fn the_word_decides_the_tracker() {
         }
         assert_eq!(straight.length, word.len());
         assert_same_fields(&straight, &roundabout);
+    }
+}
+
+/// The same calls with counts among them and without: the other calls' answers are the same, and so is the tracker after each of them.
+#[test]
+fn counts_change_nothing() {
+    let mut generator = seeded(47);
+    for _ in 0..40 {
+        let (mut with, mut without) = (Fields::zero(), Fields::zero());
+        let mut shown = Shown("calls:".to_string());
+        let calls: Vec<Call> = (0..20).flat_map(|_| some_calls(&mut generator)).collect();
+        for call in calls {
+            shown.0.push_str(&format!(" {call:?}"));
+            for _ in 0..generator.below(3) {
+                assert_eq!(Library.count(&with).number, 0);
+            }
+            let answers = [&mut with, &mut without].map(|tracker| step(&Library, tracker, call));
+            assert_eq!(answers[0], answers[1], "{call:?}");
+            assert_same_fields(&with, &without);
+        }
     }
 }
 

@@ -3,9 +3,11 @@ use crate::support::{lent, places_enough, seeded, shown};
 use checks::calls::{Answer, Calls};
 use checks::library::Library;
 use checks::reference::{self, pairs, periods, squares, Pair};
-use luffbutton::{find_cover, findings, judge, list_full, list_full_scaled, list_plain, list_runs};
-use luffbutton::{list_skipping, list_squares, report, runs, Cover, Finding, Head, Period};
-use luffbutton::{Refusal, Run, Tracker, Verdict, BOARD, CLEAR, LONGEST, TAKE_BACK};
+use luffbutton::{count_full, count_full_scaled, count_plain, count_report, count_runs};
+use luffbutton::{count_skipping, count_squares, find_cover, findings, judge, list_full};
+use luffbutton::{list_full_scaled, list_plain, list_runs, list_skipping, list_squares, report};
+use luffbutton::{runs, Cover, Finding, Head, Period, Refusal, Run, Tracker, Verdict};
+use luffbutton::{BOARD, CLEAR, LONGEST, TAKE_BACK};
 use std::error::Error;
 use std::sync::Mutex;
 
@@ -74,6 +76,66 @@ fn due<T>(answer: Answer, accepted: T) -> Result<T, Refusal> {
             needed: answer.value,
         }),
         other => panic!("refusal {other}"),
+    }
+}
+
+/// A count of the safe interface, and the list call beside which it stands.
+type Count = fn(&[u8]) -> Result<usize, Refusal>;
+type List = fn(&[u8], &mut [u32]) -> Result<usize, Refusal>;
+
+/// Every count, with what its list has written.
+const COUNTS: [(&str, Count, List); 7] = [
+    ("count_plain", count_plain, |word, out| {
+        list_plain(word, out).map(|listed| listed.written)
+    }),
+    ("count_skipping", count_skipping, |word, out| {
+        list_skipping(word, out).map(|listed| listed.written)
+    }),
+    ("count_full", count_full, list_full),
+    ("count_full_scaled", count_full_scaled, |word, out| {
+        list_full_scaled(word, out).map(|listed| listed.written)
+    }),
+    ("count_squares", count_squares, list_squares),
+    ("count_runs", count_runs, list_runs),
+    ("count_report", count_report, report),
+];
+
+/// A count says how many places its list needs: so many are filled, and with one less the list is refused.
+#[test]
+fn counts() {
+    let mut generator = seeded(83);
+    for n in (1..=40).chain([LONGEST]) {
+        let (word, _) = generator.cyclic(n, 3);
+        let _shown = shown(&word);
+        for (name, count, list) in COUNTS {
+            let needed = count(&word).expect("a word");
+            assert_eq!(list(&word, &mut vec![0; needed]), Ok(needed), "{name}");
+            if needed > 0 {
+                let short = list(&word, &mut vec![0; needed - 1]);
+                assert_eq!(short, Err(Refusal::SliceTooShort { needed }), "{name}");
+            }
+        }
+    }
+}
+
+/// Each count says the numbers of its own list: of this word there are 16 periods, one full period, six squares and five runs.
+#[test]
+fn counts_of_abaababa() {
+    let due = [16, 16, 1, 1, 6, 10, 24];
+    for ((name, count, _), words) in COUNTS.into_iter().zip(due) {
+        assert_eq!(count(b"abaababa"), Ok(words), "{name}");
+    }
+}
+
+/// A count is refused for what its list is refused for.
+#[test]
+fn refused_counts() {
+    for (name, count, list) in COUNTS {
+        let bad = Err(Refusal::NotALetter { position: 2 });
+        assert_eq!([count(b"aBc"), list(b"aBc", &mut [])], [bad; 2], "{name}");
+        let long = [b'a'; LONGEST + 1];
+        let refused = [count(&long), list(&long, &mut [])];
+        assert_eq!(refused, [Err(Refusal::TooLong); 2], "{name}");
     }
 }
 
@@ -219,15 +281,19 @@ fn a_tracker_through_its_calls() {
         Err(Refusal::SliceTooShort { needed: 16 })
     );
     assert_eq!(tracker.list(&mut out), Ok(16));
+    assert_eq!(tracker.count(), Ok(16));
     assert_eq!(tracker.take_back(), Ok(()));
     assert_eq!(tracker.letters(), b"abaabab");
     tracker.clear();
     assert!(tracker == Tracker::default() && tracker.letters().is_empty());
+    assert_eq!(tracker.count(), Ok(0));
     for _ in 0..LONGEST {
         assert_eq!(tracker.add(b'a'), Ok(()));
     }
     assert_eq!(tracker.add(b'a'), Err(Refusal::TrackerFull));
     assert_eq!(tracker.list(&mut out), Ok(pairs(LONGEST).len()));
+    assert_eq!(tracker.count(), Ok(pairs(LONGEST).len()));
+    assert_eq!(tracker.letters(), [b'a'; LONGEST]);
 }
 
 /// A tracker can be held by a static, is shown by its letters, and its refusals are errors with a text of their own.
@@ -270,14 +336,15 @@ fn a_replay_whose_list_is_refused() {
     assert_eq!(out, [7; 4]);
 }
 
-/// A list only reads its tracker, so that several may run on one at the same time.
+/// A list and a count only read their tracker, so that several may run on one at the same time.
 #[test]
-fn lists_of_one_tracker_at_the_same_time() {
+fn lists_and_counts_of_one_tracker_at_the_same_time() {
     let letters = seeded(81).cyclic(LONGEST, 3).0;
     let (tracker, _, listed) = Tracker::replay(&letters, &mut vec![0; BOARD]);
     let lists = || {
         for _ in 0..100 {
             assert_eq!(tracker.list(&mut vec![0; BOARD]), listed);
+            assert_eq!(tracker.count(), listed);
         }
     };
     std::thread::scope(|scope| {

@@ -1,6 +1,7 @@
 //! Trackers that no calls have made, damaged or not, with any board: one call on the library and on the second implementation's step by
 //! fields. Answers, slices and every field afterwards are compared.
-use crate::support::{assert_same_fields, lent, marks, not_a_letter, seeded, sparse, Shown};
+use crate::support::{assert_count_and_list_agree, assert_same_fields, lent, marks};
+use crate::support::{not_a_letter, seeded, sparse, Shown};
 use checks::calls::{Answer, Calls};
 use checks::generator::Generator;
 use checks::library::Library;
@@ -89,6 +90,20 @@ fn compare_list(tracker: &Fields, places: usize) -> usize {
     answered.0.number
 }
 
+/// Compares the count, and holds it against the list of the library.
+fn compare_count(tracker: &Fields, generator: &mut Generator) -> Answer {
+    let _shown = shown(tracker);
+    let (left, right) = (tracker.clone(), tracker.clone());
+    let answer = Library.count(&left);
+    assert_eq!(answer, Reference.count(&right), "count");
+    assert_same_fields(&left, tracker);
+    assert_same_fields(&right, tracker);
+    let list = |out: &mut [u32]| Library.list(&left, out);
+    assert_count_and_list_agree("count", answer, list, generator);
+    assert_same_fields(&left, tracker);
+    answer
+}
+
 #[test]
 fn adds_to_made_trackers() {
     let mut generator = seeded(60);
@@ -132,6 +147,34 @@ fn lists_of_made_trackers() {
     assert!(answers[0] >= 300 && answers[3] >= 300, "{answers:?}");
 }
 
+#[test]
+fn counts_of_made_trackers() {
+    let mut generator = seeded(67);
+    let mut many = 0;
+    for _ in 0..1500 {
+        let tracker = made(&mut generator);
+        let answer = compare_count(&tracker, &mut generator);
+        assert_eq!(answer.number, 0);
+        many += usize::from(answer.written > 300);
+    }
+    assert!(many >= 300, "{many} counts above 300");
+}
+
+/// The entries of pairs out of range do not count: of a tracker of n letters, all others 0, there are as many as pairs in range.
+#[test]
+fn counts_of_boards_of_zeros() {
+    let mut generator = seeded(68);
+    for n in 0..=LONGEST {
+        let mut tracker = Fields::zero();
+        tracker.length = n;
+        let letters = generator.uniform(n, LETTERS);
+        tracker.bytes[..n].copy_from_slice(&letters);
+        let pairs = (n + 1) / 2 * ((n + 2) / 2);
+        let answer = compare_count(&tracker, &mut generator);
+        assert_eq!(answer, Answer::of_words(pairs), "{n} letters");
+    }
+}
+
 /// Several calls in a row on one made tracker.
 #[test]
 fn calls_in_a_row_on_made_trackers() {
@@ -154,6 +197,7 @@ fn calls_in_a_row_on_made_trackers() {
                 )
             };
             assert_eq!(answer, due);
+            assert_eq!(Library.count(&left), Reference.count(&right));
             assert_same_fields(&left, &right);
         }
     }
@@ -173,7 +217,7 @@ fn damaged(generator: &mut Generator) -> Fields {
     tracker
 }
 
-/// Add, take-back and list refuse it with 6, before all else, and change nothing; clear leaves it fresh.
+/// Add, take-back, list and count refuse it with 6, before all else, and change nothing; clear leaves it fresh.
 #[test]
 fn damaged_trackers() {
     let mut generator = seeded(64);
@@ -188,6 +232,8 @@ fn damaged_trackers() {
         for places in [0, 5, BOARD] {
             assert_eq!(compare_list(&tracker, places), 6);
         }
+        let counted = compare_count(&tracker, &mut generator);
+        assert_eq!(counted, Answer::refused(6, 0));
         let mut left = tracker.clone();
         assert_eq!(
             lent(4, |out| Library.list(&left, out)),
@@ -212,6 +258,8 @@ fn a_bad_byte_at_every_place_of_a_tracker() {
         assert_eq!(compare_add(&tracker, b'a'), 6, "a bad byte at {at}");
         assert_eq!(compare_take_back(&tracker), 6, "a bad byte at {at}");
         assert_eq!(compare_list(&tracker, 3), 6, "a bad byte at {at}");
+        let counted = compare_count(&tracker, &mut generator);
+        assert_eq!(counted, Answer::refused(6, 0), "a bad byte at {at}");
         tracker.bytes[at] = letter;
     }
 }

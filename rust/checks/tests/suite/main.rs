@@ -1,7 +1,8 @@
-//! Tests of the proved library against document 01 and request C-11: outside vectors, marked words, and a second implementation on
-//! random words, damaged inputs and lists of tracker calls. The vectors are run on the second implementation as well. Seeds are fixed; a
-//! test that fails prints its word or its calls.
+//! Tests of the proved library against document 01 and the requests C-11 and C-12: outside vectors, marked words, and a second
+//! implementation on random words, damaged inputs and lists of tracker calls. The vectors are run on the second implementation as well.
+//! Seeds are fixed; a test that fails prints its word or its calls.
 #![forbid(unsafe_code)]
+mod counts;
 mod damaged;
 mod header;
 mod histories;

@@ -1,5 +1,5 @@
 //! Document 01's marked words and edges, with the answers as it gives them, on the library and on the second implementation.
-use crate::support::{filled, lent, marks, shown, LIST_CALLS};
+use crate::support::{filled, lent, marks, shown, tracked, LIST_CALLS};
 use checks::calls::{Answer, Calls};
 use checks::library::Library;
 use checks::reference::{cover_lengths, pairs, Pair, Reference};
@@ -57,15 +57,6 @@ fn full(calls: &dyn Calls, word: &[u8]) -> (Vec<u32>, usize, usize) {
         answer.s,
         answer.t,
     )
-}
-
-/// A tracker to which the letters were added.
-fn tracked(calls: &dyn Calls, letters: &[u8]) -> Fields {
-    let mut tracker = Fields::zero();
-    for &letter in letters {
-        assert_eq!(calls.add(&mut tracker, letter), Answer::default());
-    }
-    tracker
 }
 
 /// The entry of a pair.

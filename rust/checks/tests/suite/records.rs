@@ -40,7 +40,7 @@ pub struct RangeRecord {
     pub answer: Answer,
 }
 
-/// A tracker call.
+/// A tracker call. The records have no counts.
 #[derive(Clone, Copy, Debug)]
 pub enum Call {
     Add(u8),
@@ -48,6 +48,7 @@ pub enum Call {
     Clear,
     /// With so many places.
     List(usize),
+    Count,
 }
 
 /// A tracker call and what it answers; for a list, the words too.

@@ -36,10 +36,7 @@ fn vectors_agree(calls: &dyn Calls) {
     for record in read_runs() {
         let _shown = shown(&record.word);
         let words = due_words(&record);
-        let due = Answer {
-            written: words.len(),
-            ..Answer::default()
-        };
+        let due = Answer::of_words(words.len());
         let call = |out: &mut [u32]| calls.list_runs(&record.word, out);
         assert_lists(call, &words, due, "list_runs");
     }

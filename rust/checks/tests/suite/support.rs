@@ -1,9 +1,10 @@
-//! What the tests share: slices with guard values, the list calls by name, comparisons of two implementations.
+//! What the tests share: slices with guard values, the list calls and their counts by name, comparisons of two implementations.
+use crate::records::Call;
 use checks::calls::{Answer, Calls};
 use checks::generator::Generator;
 use checks::library::Library;
 use checks::reference::{is_letter, pairs, Reference};
-use luffbutton::{Fields, LETTERS, MOST_FULL};
+use luffbutton::{Fields, LETTERS, MOST_FULL, MOST_REPORT};
 
 /// The seed of every generator here; each test adds a number of its own.
 const SEED: u64 = 20_250_117;
@@ -52,6 +53,22 @@ pub const LIST_CALLS: [(&str, ListCall); 7] = [
     }),
     ("list_runs", |calls, word, out| calls.list_runs(word, out)),
     ("report", |calls, word, out| calls.report(word, out)),
+];
+
+/// A count of the words that a list call writes of a word.
+pub type CountCall = fn(&dyn Calls, &[u8]) -> Answer;
+
+/// The count beside each of the list calls, in their order, by name.
+pub const COUNT_CALLS: [(&str, CountCall); 7] = [
+    ("count_plain", |calls, word| calls.count_plain(word)),
+    ("count_skipping", |calls, word| calls.count_skipping(word)),
+    ("count_full", |calls, word| calls.count_full(word)),
+    ("count_full_scaled", |calls, word| {
+        calls.count_full_scaled(word)
+    }),
+    ("count_squares", |calls, word| calls.count_squares(word)),
+    ("count_runs", |calls, word| calls.count_runs(word)),
+    ("count_report", |calls, word| calls.count_report(word)),
 ];
 
 /// Places behind a lent slice that no call may write to.
@@ -120,6 +137,65 @@ pub fn assert_lists(
     }
 }
 
+/// Asserts what request C-12 claims of a count's answer and its list call. Where the count is accepted with k, the list into k places or
+/// more is accepted and writes k words, and into fewer it is refused with 3 and the value k. Where the count is refused, the list is refused
+/// with the same number and value, whatever the slice. Where the list is refused by anything but 3, so is the count, in the same way.
+pub fn assert_count_and_list_agree(
+    name: &str,
+    counted: Answer,
+    list: impl Fn(&mut [u32]) -> Answer,
+    generator: &mut Generator,
+) {
+    let k = counted.written;
+    let some = generator.below(2 * k + 20);
+    for places in [0, k.saturating_sub(1), k, k + 1, some, MOST_REPORT] {
+        let (answer, out) = lent(places, &list);
+        let context = format!("{name} and its list into {places} places");
+        if answer.number != 0 && answer.number != 3 {
+            assert_eq!(counted, answer, "{context}");
+        }
+        if counted.number != 0 {
+            assert_eq!((answer, out), (counted, marks(places)), "{context}");
+        } else if places < k {
+            let refused = (Answer::refused(3, k), marks(places));
+            assert_eq!((answer, out), refused, "{context}");
+        } else {
+            assert_eq!(counted, Answer::of_words(k), "{context}");
+            let numbers = (answer.number, answer.value, answer.written);
+            assert_eq!(numbers, (0, 0, k), "{context}");
+            assert_written(&out, k, &context);
+        }
+    }
+}
+
+/// Asserts that the first so many places were written, and no others.
+fn assert_written(out: &[u32], written: usize, context: &str) {
+    let unwritten = marks(out.len());
+    assert_eq!(out[written..], unwritten[written..], "{context}");
+    let mut first = out.iter().zip(&unwritten).take(written);
+    assert!(first.all(|(word, mark)| word != mark), "{context}");
+}
+
+/// A tracker to which the letters were added.
+pub fn tracked(calls: &dyn Calls, letters: &[u8]) -> Fields {
+    let mut tracker = Fields::zero();
+    for &letter in letters {
+        assert_eq!(calls.add(&mut tracker, letter), Answer::default());
+    }
+    tracker
+}
+
+/// The call's answer, and for a list the slice afterwards.
+pub fn step(calls: &dyn Calls, tracker: &mut Fields, call: Call) -> (Answer, Vec<u32>) {
+    match call {
+        Call::Add(letter) => (calls.add(tracker, letter), Vec::new()),
+        Call::TakeBack => (calls.take_back(tracker), Vec::new()),
+        Call::Clear => (calls.clear(tracker), Vec::new()),
+        Call::List(places) => lent(places, |out| calls.list(tracker, out)),
+        Call::Count => (calls.count(tracker), Vec::new()),
+    }
+}
+
 /// The entries that are not 0, of bytes or a board, by place.
 pub fn sparse(entries: &[u8]) -> Vec<(usize, u8)> {
     let all = entries.iter().copied().enumerate();
@@ -144,12 +220,14 @@ pub fn compare_list(name: &str, call: ListCall, word: &[u8], places: usize) -> A
     answer
 }
 
-/// Compares every call on a word: each list call with places enough and with some number of places around what is needed, the
+/// Compares every call on a word: each list call with places enough and with some number of places around what is needed, its count, the
 /// search for a cover, and the judge on every pair in range.
 pub fn compare_word(word: &[u8], generator: &mut Generator) {
     let _shown = shown(word);
-    for (name, call) in LIST_CALLS {
+    for ((name, call), (count_name, count)) in LIST_CALLS.into_iter().zip(COUNT_CALLS) {
         let needed = compare_list(name, call, word, places_enough(word.len())).written;
+        let counted = count(&Library, word);
+        assert_eq!(counted, Answer::of_words(needed), "{count_name}");
         let some = generator.below(needed + 1);
         let places = generator.pick(&[some, needed.saturating_sub(1), needed, needed + 1]);
         compare_list(name, call, word, places);

@@ -1,7 +1,7 @@
 //! The outside vectors of document 01, each kind of record on the library and on the second implementation.
 use crate::records::{read, Answered, Call, CallsRecord, WordRecord};
 use crate::support::{assert_lists, assert_same_fields, filled, lent, marks, places_enough};
-use crate::support::{shown, Shown, LIST_CALLS};
+use crate::support::{shown, step, Shown, COUNT_CALLS, LIST_CALLS};
 use checks::calls::{Answer, Calls};
 use checks::library::Library;
 use checks::reference::{ended_length, pairs, Machine, Pair, Prefixes, Reference};
@@ -174,6 +174,9 @@ fn refused_words_agree(calls: &dyn Calls) {
                 assert_eq!(out, marks(places), "{name}");
             }
         }
+        for (name, count) in COUNT_CALLS {
+            assert_eq!(count(calls, &record.word), record.answer, "{name}");
+        }
         assert_eq!(calls.find_cover(&record.word), record.answer);
         for (h, p) in [(0, 1), (1, 1), (0, usize::MAX)] {
             let answer = calls.judge(&record.word, Head(h), Period(p));
@@ -212,16 +215,6 @@ fn pairs_out_of_range_on_the_library() {
 #[test]
 fn pairs_out_of_range_on_the_reference() {
     ranges_agree(&Reference);
-}
-
-/// The call's answer, and for a list the slice afterwards.
-fn step(calls: &dyn Calls, tracker: &mut Fields, call: Call) -> (Answer, Vec<u32>) {
-    match call {
-        Call::Add(letter) => (calls.add(tracker, letter), Vec::new()),
-        Call::TakeBack => (calls.take_back(tracker), Vec::new()),
-        Call::Clear => (calls.clear(tracker), Vec::new()),
-        Call::List(places) => lent(places, |out| calls.list(tracker, out)),
-    }
 }
 
 /// Asserts that a call's answer and slice are the record's.
@@ -265,6 +258,7 @@ fn histories_on_the_machine() {
                 Call::TakeBack => (machine.take_back(), Vec::new()),
                 Call::Clear => (machine.clear(), Vec::new()),
                 Call::List(places) => lent(places, |out| machine.list(out)),
+                Call::Count => (machine.count(), Vec::new()),
             };
             assert_answered(due, answer, &out);
         }

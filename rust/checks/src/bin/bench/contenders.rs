@@ -1,8 +1,8 @@
-//! What is timed: the library's calls and their peers, on six kinds of words, runs on seven.
-use crate::measure::{best, lower, on_copies, repeated, Timed, Turn, SIZES};
+//! What is timed: the library's calls and their peers, on six kinds of words, runs on seven; and the counts beside their lists.
 use checks::calls::{Answer, Calls};
-use checks::generator::{abba, Word, TIMED_WORDS};
+use checks::generator::{timed_words, Word, TIMED_WORDS};
 use checks::library::Library;
+use checks::measure::{best, lower, on_copies, repeated, Timed, Turn, SIZES};
 use checks::peers::{add_in_place, list_brute_force, list_counting_anew, list_full_002};
 use checks::peers::{list_runs_003, list_select_based, list_sliding_windows, OnLine};
 use luffbutton::{findings, Fields, Finding, LONGEST, MOST_REPORT};
@@ -16,6 +16,9 @@ type WordCaller = fn(&[u8], &mut [u32]) -> Answer;
 
 /// A call on a word: its name, and the contenders, the library first.
 pub type WordCall = (&'static str, &'static [(&'static str, WordCaller)]);
+
+/// Asserts that contenders agree on a word.
+type AssertAgree = fn(&[(&'static str, WordCaller)], &[u8]);
 
 /// The calls on words, but for the judge's.
 pub const WORD_CALLS: [WordCall; 8] = [
@@ -69,19 +72,67 @@ pub const WORD_CALLS: [WordCall; 8] = [
     ),
 ];
 
-/// The words on which a call is timed: the six, and for runs also one that has many.
-fn words_for(call: &str) -> Vec<(&'static str, Word)> {
-    let mut words = TIMED_WORDS.to_vec();
-    if call == "list_runs" {
-        words.push(("abba repeated", abba));
-    }
-    words
-}
+/// The counts: beside each, the library's own list call whose words it counts.
+pub const COUNTS: [WordCall; 7] = [
+    (
+        "count_plain",
+        &[
+            ("library", |word, _| Library.count_plain(word)),
+            ("list_plain", |word, out| Library.list_plain(word, out)),
+        ],
+    ),
+    (
+        "count_skipping",
+        &[
+            ("library", |word, _| Library.count_skipping(word)),
+            ("list_skipping", |word, out| {
+                Library.list_skipping(word, out)
+            }),
+        ],
+    ),
+    (
+        "count_full",
+        &[
+            ("library", |word, _| Library.count_full(word)),
+            ("list_full", |word, out| Library.list_full(word, out)),
+        ],
+    ),
+    (
+        "count_full_scaled",
+        &[
+            ("library", |word, _| Library.count_full_scaled(word)),
+            ("list_full_scaled", |word, out| {
+                Library.list_full_scaled(word, out)
+            }),
+        ],
+    ),
+    (
+        "count_squares",
+        &[
+            ("library", |word, _| Library.count_squares(word)),
+            ("list_squares", |word, out| Library.list_squares(word, out)),
+        ],
+    ),
+    (
+        "count_runs",
+        &[
+            ("library", |word, _| Library.count_runs(word)),
+            ("list_runs", |word, out| Library.list_runs(word, out)),
+        ],
+    ),
+    (
+        "count_report",
+        &[
+            ("library", |word, _| Library.count_report(word)),
+            ("report", |word, out| Library.report(word, out)),
+        ],
+    ),
+];
 
 /// Times a function for each of a call's words and each size.
 fn over_words(call: &str, time: impl Fn(&[u8]) -> Vec<f64>) -> Vec<(&'static str, Vec<Vec<f64>>)> {
     let sizes = |word: Word| SIZES.iter().map(|&n| time(&word(n))).collect();
-    let words = words_for(call).into_iter();
+    let words = timed_words(call).into_iter();
     words.map(|(name, word)| (name, sizes(word))).collect()
 }
 
@@ -90,10 +141,20 @@ fn places() -> Vec<u32> {
     vec![0; MOST_REPORT]
 }
 
-/// Times a call on words.
-pub fn time_word_call(&(call, contenders): &WordCall) -> Timed {
+/// Times a call on words, beside its peers.
+pub fn time_word_call(call: &WordCall) -> Timed {
+    time_contenders(call, assert_calls_agree)
+}
+
+/// Times a count on words, beside its list.
+pub fn time_count(count: &WordCall) -> Timed {
+    time_contenders(count, assert_counts_what_is_written)
+}
+
+/// Times all contenders on words of which they were asserted to agree.
+fn time_contenders(&(call, contenders): &WordCall, assert_agree: AssertAgree) -> Timed {
     let time = |word: &[u8]| {
-        assert_calls_agree(contenders, word);
+        assert_agree(contenders, word);
         let turn = |&(_, caller): &(&str, WordCaller)| -> Turn<'_> {
             let mut out = places();
             repeated(move || caller(black_box(word), black_box(&mut out)))
@@ -108,7 +169,7 @@ pub fn time_word_call(&(call, contenders): &WordCall) -> Timed {
 }
 
 /// All contenders give the same numbers and words.
-fn assert_calls_agree(contenders: &[(&str, WordCaller)], word: &[u8]) {
+fn assert_calls_agree(contenders: &[(&'static str, WordCaller)], word: &[u8]) {
     let run = |caller: WordCaller| {
         let mut out = places();
         (caller(word, &mut out), out)
@@ -121,6 +182,14 @@ fn assert_calls_agree(contenders: &[(&str, WordCaller)], word: &[u8]) {
             word.escape_ascii()
         );
     }
+}
+
+/// A count's number is what the list writes.
+fn assert_counts_what_is_written(contenders: &[(&'static str, WordCaller)], word: &[u8]) {
+    let run = |(_, caller): (&str, WordCaller)| caller(word, &mut places());
+    let (counted, listed) = (run(contenders[0]), run(contenders[1]));
+    assert_eq!(counted, Answer::of_words(listed.written));
+    assert_eq!(listed.number, 0);
 }
 
 /// Times the judge on the first Abelian period of a word, of which it reads every block.
@@ -204,9 +273,10 @@ fn assert_adds_agree(word: &[u8]) {
 }
 
 /// What else is timed of a tracker that holds 240 letters.
-pub const TRACKER_CALLS: [&str; 7] = [
+pub const TRACKER_CALLS: [&str; 8] = [
     "`take_back`",
     "`list`",
+    "`count`",
     "`fresh`",
     "`clear`",
     "`replay`",
@@ -239,6 +309,8 @@ pub fn time_trackers() -> Trackers {
 
 fn time_tracker(word: &[u8]) -> Vec<f64> {
     let full = tracked(word);
+    let listed = Library.list(&full, &mut places());
+    assert_eq!(Library.count(&full), listed);
     let (mut out, mut replayed) = (places(), places());
     let (mut refusing, mut copied) = (full.clone(), full.clone());
     let (mut fresh, mut cleared, mut made) = (full.clone(), full.clone(), full.clone());
@@ -247,6 +319,7 @@ fn time_tracker(word: &[u8]) -> Vec<f64> {
             Library.take_back(tracker)
         }),
         repeated(|| Library.list(black_box(&full), black_box(&mut out))),
+        repeated(|| Library.count(black_box(&full))),
         repeated(|| Library.fresh(black_box(&mut fresh))),
         repeated(|| Library.clear(black_box(&mut cleared))),
         repeated(|| Library.replay(black_box(&mut made), black_box(word), &mut replayed)),
@@ -272,5 +345,5 @@ pub fn numbers_of_runs() -> Vec<(&'static str, usize)> {
         let listed = Library.list_runs(&word(LONGEST), &mut places());
         (name, listed.written / 2)
     };
-    words_for("list_runs").into_iter().map(runs).collect()
+    timed_words("list_runs").into_iter().map(runs).collect()
 }

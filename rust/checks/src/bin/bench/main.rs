@@ -7,35 +7,26 @@
 #![forbid(unsafe_code)]
 
 mod contenders;
-mod measure;
 mod picture;
 mod tables;
 
-use contenders::{time_adds, time_judge, time_trackers, time_word_call, Trackers, WORD_CALLS};
-use measure::Timed;
+use checks::measure::{better, over_passes, Timed};
+use contenders::{time_adds, time_count, time_judge, time_trackers, time_word_call};
+use contenders::{Trackers, COUNTS, WORD_CALLS};
 use std::path::Path;
 use std::{env, fs};
-
-/// How often everything is timed.
-const PASSES: usize = 5;
 
 /// Where the tables begin and end in PERFORMANCE.md.
 const BEGIN: &str = "<!-- tables: written by rust/checks/src/bin/bench -->";
 const END: &str = "<!-- end of tables -->";
 
 fn main() {
-    let (mut all, mut full) = pass();
-    for _ in 1..PASSES {
-        let (others, other) = pass();
-        let pairs = all.into_iter().zip(&others);
-        all = pairs.map(|(timed, other)| timed.better(other)).collect();
-        full = full.better(&other);
-    }
-    let text = tables::markdown(&all, &full);
+    let times = over_passes(pass, Times::better);
+    let text = tables::markdown(&times);
     print!("{text}");
     if let Some(docs) = env::args().nth(1) {
         let docs = Path::new(&docs);
-        fs::write(docs.join("performance.svg"), picture::svg(&all))
+        fs::write(docs.join("performance.svg"), picture::svg(&times.calls))
             .expect("the picture is written");
         let page = docs.join("PERFORMANCE.md");
         let old = fs::read_to_string(&page).expect("PERFORMANCE.md is there");
@@ -43,12 +34,34 @@ fn main() {
     }
 }
 
+/// All times: those of the calls beside their peers, those of the counts beside their lists, and those of a full tracker's other calls.
+pub struct Times {
+    calls: Vec<Timed>,
+    counts: Vec<Timed>,
+    trackers: Trackers,
+}
+
+impl Times {
+    /// The better of two passes, time by time.
+    fn better(self, other: &Times) -> Times {
+        Times {
+            calls: better(self.calls, &other.calls),
+            counts: better(self.counts, &other.counts),
+            trackers: self.trackers.better(&other.trackers),
+        }
+    }
+}
+
 /// Times everything once.
-fn pass() -> (Vec<Timed>, Trackers) {
-    let mut all: Vec<Timed> = WORD_CALLS.iter().map(time_word_call).collect();
-    all.push(time_judge());
-    all.push(time_adds());
-    (all, time_trackers())
+fn pass() -> Times {
+    let mut calls: Vec<Timed> = WORD_CALLS.iter().map(time_word_call).collect();
+    calls.push(time_judge());
+    calls.push(time_adds());
+    Times {
+        calls,
+        counts: COUNTS.iter().map(time_count).collect(),
+        trackers: time_trackers(),
+    }
 }
 
 /// The page with the text between its marks renewed.

@@ -1,5 +1,6 @@
-//! The picture: for each call a panel with the times of all contenders over n, both on logarithmic scales.
-use crate::measure::{Timed, SIZES};
+//! The picture: for each call a panel with the times of all contenders over n, both on logarithmic scales. The counts are in the tables
+//! alone: no other algorithm stands beside them.
+use checks::measure::{Timed, SIZES};
 use std::fmt::Write;
 
 /// The lines of the contenders, the library's first.

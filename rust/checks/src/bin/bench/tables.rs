@@ -1,36 +1,24 @@
 //! The tables, as markdown.
 use crate::contenders::{numbers_of_runs, trials, Trackers, TRACKER_CALLS};
-use crate::measure::{Timed, SIZES};
+use crate::Times;
+use checks::markdown::{header, row, three_digits};
+use checks::measure::{Timed, SIZES};
 use std::fmt::Write;
 
-/// All tables: a summary, one for each call, and the tracker's other calls.
-pub fn markdown(all: &[Timed], full: &Trackers) -> String {
+/// All tables: a summary of the calls and one of the counts, one for each of both, and the tracker's other calls.
+pub fn markdown(times: &Times) -> String {
     let mut text = String::new();
-    summary(&mut text, all);
-    for timed in all {
+    text.push_str("Geometric means over the six words, of runs over these and `abba` repeated. Time: microseconds of the library's call. Ratio: its time divided by the peer's. `judge` is asked about the word's first Abelian period.\n\n");
+    summary(&mut text, "peer", &times.calls);
+    text.push_str("The same of the counts, each beside the library's own list, whose words it counts. Ratio: the count's time divided by the list's.\n\n");
+    summary(&mut text, "list", &times.counts);
+    for timed in times.calls.iter().chain(&times.counts) {
         call_table(&mut text, timed);
     }
-    tracker_table(&mut text, full);
+    tracker_table(&mut text, &times.trackers);
     trials_table(&mut text);
     runs_table(&mut text);
     text
-}
-
-/// A row of a table.
-fn row(text: &mut String, cells: &[String]) {
-    writeln!(text, "| {} |", cells.join(" | ")).expect("text takes any row");
-}
-
-/// The first row of a table, and the line below it.
-fn header(text: &mut String, cells: &[String]) {
-    row(text, cells);
-    row(text, &vec!["---".to_string(); cells.len()]);
-}
-
-/// A time or a ratio with three digits.
-fn three_digits(value: f64) -> String {
-    let digits = (2 - value.log10().floor() as i32).clamp(0, 4) as usize;
-    format!("{value:.digits$}")
 }
 
 /// By which power of n the time grows between two sizes, the second twice the first.
@@ -38,10 +26,9 @@ fn growth(from: f64, to: f64) -> String {
     format!("{:.1}", (to / from).log2())
 }
 
-/// For each call and each peer: the library's time at each size, how many times the peer's it is, and how it grows.
-fn summary(text: &mut String, all: &[Timed]) {
-    text.push_str("Geometric means over the six words, of `list_runs` over these and `abba` repeated. Time: microseconds of the library's call. Ratio: its time divided by the peer's. `judge` is asked about the word's first Abelian period.\n\n");
-    let mut cells = vec!["call".to_string(), "peer".to_string()];
+/// For each call and each peer, or list: the library's time at each size, how many times the peer's it is, and how it grows.
+fn summary(text: &mut String, peer: &str, all: &[Timed]) {
+    let mut cells = vec!["call".to_string(), peer.to_string()];
     cells.extend(SIZES.map(|n| format!("time, n = {n}")));
     cells.extend(SIZES.map(|n| format!("ratio, n = {n}")));
     cells.push("time grows from 120 to 240 as n to the power".to_string());

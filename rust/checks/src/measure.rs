@@ -1,7 +1,10 @@
-//! Times of one call: the best of many rounds, in which all contenders take their turns. The whole is done in several passes, since a
-//! machine may be slower for some seconds.
+//! Times of one call, for the binaries `bench` and `turns`: the best of many rounds, in which all contenders take their turns. The whole is
+//! done in several passes, since a machine may be slower for some seconds.
 use std::hint::black_box;
 use std::time::{Duration, Instant};
+
+/// How often everything is timed.
+const PASSES: usize = 5;
 
 /// The lengths of the words.
 pub const SIZES: [usize; 4] = [30, 60, 120, 240];
@@ -24,7 +27,7 @@ pub struct Timed {
 
 impl Timed {
     /// The better of two passes, time by time.
-    pub fn better(mut self, other: &Timed) -> Timed {
+    fn better(mut self, other: &Timed) -> Timed {
         for ((_, sizes), (_, others)) in self.words.iter_mut().zip(&other.words) {
             for (times, others) in sizes.iter_mut().zip(others) {
                 lower(times, others);
@@ -49,6 +52,17 @@ impl Timed {
     }
 }
 
+/// The better of two passes, time by time, for calls in the same order.
+pub fn better(all: Vec<Timed>, others: &[Timed]) -> Vec<Timed> {
+    let pairs = all.into_iter().zip(others);
+    pairs.map(|(timed, other)| timed.better(other)).collect()
+}
+
+/// The best of all passes.
+pub fn over_passes<T>(pass: impl Fn() -> T, better: impl Fn(T, &T) -> T) -> T {
+    (1..PASSES).fold(pass(), |best, _| better(best, &pass()))
+}
+
 /// Lowers each time to the other's where that is less.
 pub fn lower(times: &mut [f64], others: &[f64]) {
     for (time, &other) in times.iter_mut().zip(others) {
@@ -56,7 +70,8 @@ pub fn lower(times: &mut [f64], others: &[f64]) {
     }
 }
 
-fn mean(values: impl Iterator<Item = f64>) -> f64 {
+/// The geometric mean.
+pub fn mean(values: impl Iterator<Item = f64>) -> f64 {
     let logs: Vec<f64> = values.map(f64::ln).collect();
     (logs.iter().sum::<f64>() / logs.len() as f64).exp()
 }

@@ -1,0 +1,133 @@
+//! The write calls of two archives, this one and an older one. The script `rust/turns` has renamed the functions of both, luff_report to
+//! after_luff_report and before_luff_report and so on, so that one program can link both.
+//!
+//! It is the one place of the checks with `unsafe`: the functions are declared and called here alone, with slices and fields that are lent
+//! for the call, as in `luffbutton::numbers`.
+#![allow(unsafe_code)]
+use checks::calls::Answer;
+use luffbutton::numbers::{Listed, Outcome, Replayed, Scaled, Wrote};
+use luffbutton::{Fields, BOARD, LONGEST};
+
+/// Declares functions that both archives have, with the same parameters, answers and layouts.
+macro_rules! archives {
+    ($($function:ident($($name:ident: $kind:ty),*) -> $answer:ty;)*) => {
+        /// The functions of an archive.
+        pub struct Archive {
+            $($function: unsafe extern "C" fn($($kind),*) -> $answer,)*
+        }
+
+        /// This archive and the older one.
+        pub static BOTH: [Archive; 2] = [
+            {
+                #[link(name = "luffafter", kind = "static")]
+                extern "C" {
+                    $(#[link_name = concat!("after_", stringify!($function))] fn $function($($name: $kind),*) -> $answer;)*
+                }
+                Archive { $($function),* }
+            },
+            {
+                #[link(name = "luffbefore", kind = "static")]
+                extern "C" {
+                    $(#[link_name = concat!("before_", stringify!($function))] fn $function($($name: $kind),*) -> $answer;)*
+                }
+                Archive { $($function),* }
+            },
+        ];
+    };
+}
+
+type Bytes = [u8; LONGEST];
+type Board = [u8; BOARD];
+
+archives! {
+    luff_list_plain(word: *const u8, n: usize, out: *mut u32, places: usize) -> Listed;
+    luff_list_skipping(word: *const u8, n: usize, out: *mut u32, places: usize) -> Listed;
+    luff_list_full(word: *const u8, n: usize, out: *mut u32, places: usize) -> Wrote;
+    luff_list_full_scaled(word: *const u8, n: usize, out: *mut u32, places: usize) -> Scaled;
+    luff_list_squares(word: *const u8, n: usize, out: *mut u32, places: usize) -> Wrote;
+    luff_list_runs(word: *const u8, n: usize, out: *mut u32, places: usize) -> Wrote;
+    luff_report(word: *const u8, n: usize, out: *mut u32, places: usize) -> Wrote;
+    luff_tracker_add_fields(length: *mut usize, bytes: *mut Bytes, board: *mut Board, letter: u8) -> Outcome;
+    luff_tracker_take_back_fields(length: *mut usize, bytes: *mut Bytes, board: *mut Board) -> Outcome;
+    luff_tracker_list_fields(length: usize, bytes: *const Bytes, board: *const Board, out: *mut u32, places: usize) -> Wrote;
+    luff_tracker_replay_fields(calls: *const u8, n: usize, out: *mut u32, places: usize, length: *mut usize, bytes: *mut Bytes, board: *mut Board) -> Replayed;
+}
+
+/// A list call of an archive on a word.
+pub type ListCall = fn(&Archive, &[u8], &mut [u32]) -> Answer;
+
+/// The list calls on a word, by name.
+pub const LISTS: [(&str, ListCall); 7] = [
+    ("list_plain", |archive, word, out| {
+        list_by(archive.luff_list_plain, word, out)
+    }),
+    ("list_skipping", |archive, word, out| {
+        list_by(archive.luff_list_skipping, word, out)
+    }),
+    ("list_full", |archive, word, out| {
+        list_by(archive.luff_list_full, word, out)
+    }),
+    ("list_full_scaled", |archive, word, out| {
+        list_by(archive.luff_list_full_scaled, word, out)
+    }),
+    ("list_squares", |archive, word, out| {
+        list_by(archive.luff_list_squares, word, out)
+    }),
+    ("list_runs", |archive, word, out| {
+        list_by(archive.luff_list_runs, word, out)
+    }),
+    ("report", REPORT),
+];
+
+/// The report alone.
+pub const REPORT: ListCall = |archive, word, out| list_by(archive.luff_report, word, out);
+
+/// A function of an archive that lists something of a word.
+type ListFunction<Numbers> = unsafe extern "C" fn(*const u8, usize, *mut u32, usize) -> Numbers;
+
+fn list_by<Numbers>(function: ListFunction<Numbers>, word: &[u8], out: &mut [u32]) -> Answer
+where
+    Answer: From<Numbers>,
+{
+    // SAFETY: `function` is one of an archive's that list something of a word (this function is private, and no other is handed to it),
+    // and both slices are valid for their lengths.
+    let numbers = unsafe { function(word.as_ptr(), word.len(), out.as_mut_ptr(), out.len()) };
+    numbers.into()
+}
+
+/// The tracker's calls.
+impl Archive {
+    pub fn add(&self, tracker: &mut Fields, letter: u8) -> Outcome {
+        let (length, bytes) = (&mut tracker.length, &mut tracker.bytes);
+        // SAFETY: the fields are three places of one struct.
+        unsafe { (self.luff_tracker_add_fields)(length, bytes, &mut tracker.board, letter) }
+    }
+
+    pub fn take_back(&self, tracker: &mut Fields) -> Outcome {
+        let (length, bytes) = (&mut tracker.length, &mut tracker.bytes);
+        // SAFETY: the fields are three places of one struct.
+        unsafe { (self.luff_tracker_take_back_fields)(length, bytes, &mut tracker.board) }
+    }
+
+    pub fn list(&self, tracker: &Fields, out: &mut [u32]) -> Wrote {
+        let (length, bytes, board) = (tracker.length, &tracker.bytes, &tracker.board);
+        let (places, out) = (out.len(), out.as_mut_ptr());
+        // SAFETY: the fields are lent for reading, and the slice is valid for its length.
+        unsafe { (self.luff_tracker_list_fields)(length, bytes, board, out, places) }
+    }
+
+    pub fn replay(&self, tracker: &mut Fields, calls: &[u8], out: &mut [u32]) -> Replayed {
+        // SAFETY: both slices are valid for their lengths, and the fields are three places of one struct.
+        unsafe {
+            (self.luff_tracker_replay_fields)(
+                calls.as_ptr(),
+                calls.len(),
+                out.as_mut_ptr(),
+                out.len(),
+                &mut tracker.length,
+                &mut tracker.bytes,
+                &mut tracker.board,
+            )
+        }
+    }
+}

@@ -1,0 +1,181 @@
+//! Times the library's write calls beside those of an older archive, on the same words of 240 letters, in one run and in turns. The script
+//! `rust/turns` renames the functions of both archives, builds this with the feature `before` and runs it:
+//!
+//!     rust/turns OLD_ARCHIVE
+//!
+//! prints a table. Both archives' answers, lists and trackers are asserted to be the same before a call is timed.
+#![deny(unsafe_code)]
+
+mod archives;
+
+use archives::{Archive, ListCall, BOTH, LISTS, REPORT};
+use checks::generator::{timed_words, Word};
+use checks::markdown::{header, row, three_digits};
+use checks::measure::{best, better, mean, on_copies, over_passes, repeated, Timed, Turn};
+use luffbutton::{Fields, LONGEST, MOST_REPORT};
+use std::cell::RefCell;
+use std::hint::black_box;
+
+fn main() {
+    print(&over_passes(pass, |all, others| better(all, others)));
+}
+
+/// Times every call once.
+fn pass() -> Vec<Timed> {
+    let list = |(name, list)| over_words(name, |word| time_list(list, word, MOST_REPORT));
+    let mut all: Vec<Timed> = LISTS.into_iter().map(list).collect();
+    all.push(over_words("report, as many places as it needs", |word| {
+        let needed = REPORT(&BOTH[0], word, &mut places()).written;
+        time_list(REPORT, word, needed)
+    }));
+    all.push(over_words("add of the last letter", time_add));
+    all.push(over_words("take_back", time_take_back));
+    all.push(over_words("list", time_tracker_list));
+    all.push(over_words("replay", time_replay));
+    all
+}
+
+/// Times a call on each of its words.
+fn over_words(call: &'static str, time: impl Fn(&[u8]) -> Vec<f64>) -> Timed {
+    let timed = |(name, word): (&'static str, Word)| (name, vec![time(&word(LONGEST))]);
+    Timed {
+        call,
+        contenders: vec!["after", "before"],
+        words: timed_words(call).into_iter().map(timed).collect(),
+    }
+}
+
+/// A slice for any list, with places enough that a report is not counted before it is written.
+fn places() -> Vec<u32> {
+    vec![0; MOST_REPORT]
+}
+
+/// The best times of both archives.
+fn time_both<'a>(turn: impl Fn(&'static Archive) -> Turn<'a>) -> Vec<f64> {
+    best(BOTH.iter().map(turn).collect())
+}
+
+/// Asserts that both archives give the same.
+fn assert_same<T: PartialEq>(word: &[u8], given: impl Fn(&Archive) -> T) {
+    let [after, before] = BOTH.each_ref().map(given);
+    assert!(after == before, "they differ on {}", word.escape_ascii());
+}
+
+/// Times a list call. The archives share the slice, so that it lies alike for both.
+fn time_list(list: ListCall, word: &[u8], places: usize) -> Vec<f64> {
+    assert_same(word, |archive| {
+        let mut out = vec![0; places];
+        (list(archive, word, &mut out), out)
+    });
+    let out = RefCell::new(vec![0; places]);
+    time_both(|archive| {
+        let out = &out;
+        repeated(move || list(archive, black_box(word), black_box(&mut out.borrow_mut())))
+    })
+}
+
+/// A tracker to which the letters were added, by this archive.
+fn tracked(letters: &[u8]) -> Fields {
+    let mut tracker = Fields::zero();
+    for &letter in letters {
+        assert_eq!(BOTH[0].add(&mut tracker, letter).refusal, 0);
+    }
+    tracker
+}
+
+/// A tracker that begins where a line of the cache does, so that both archives' copies lie alike.
+#[derive(Clone)]
+#[repr(align(64))]
+struct Aligned(Fields);
+
+/// Times a call that changes its tracker.
+fn time_change<T: PartialEq>(
+    word: &[u8],
+    start: Fields,
+    change: impl Fn(&Archive, &mut Fields) -> T,
+) -> Vec<f64> {
+    assert_same(word, |archive| {
+        let mut tracker = start.clone();
+        (change(archive, &mut tracker), tracker)
+    });
+    time_both(|archive| {
+        let (start, change) = (Aligned(start.clone()), &change);
+        on_copies(start, move |tracker| change(archive, &mut tracker.0))
+    })
+}
+
+fn time_add(word: &[u8]) -> Vec<f64> {
+    let (&last, letters) = word.split_last().expect("a letter");
+    time_change(word, tracked(letters), |archive, tracker| {
+        archive.add(tracker, last)
+    })
+}
+
+fn time_take_back(word: &[u8]) -> Vec<f64> {
+    time_change(word, tracked(word), Archive::take_back)
+}
+
+fn time_tracker_list(word: &[u8]) -> Vec<f64> {
+    let tracker = tracked(word);
+    assert_same(word, |archive| {
+        let mut out = places();
+        (archive.list(&tracker, &mut out), out)
+    });
+    let out = RefCell::new(places());
+    time_both(|archive| {
+        let (tracker, out) = (&tracker, &out);
+        repeated(move || archive.list(black_box(tracker), black_box(&mut out.borrow_mut())))
+    })
+}
+
+/// Times a replay that adds the word's letters and lists once.
+fn time_replay(word: &[u8]) -> Vec<f64> {
+    let lent = || (Fields::zero(), places());
+    assert_same(word, |archive| {
+        let (mut tracker, mut out) = lent();
+        let answer = archive.replay(&mut tracker, word, &mut out);
+        (answer, tracker, out)
+    });
+    let lent = RefCell::new(lent());
+    time_both(|archive| {
+        let lent = &lent;
+        repeated(move || {
+            let (tracker, out) = &mut *lent.borrow_mut();
+            archive.replay(black_box(tracker), black_box(word), black_box(out))
+        })
+    })
+}
+
+/// A row for each call: the times and their ratio for each word, then the mean of the ratios; and last the mean over the calls.
+fn print(all: &[Timed]) {
+    let words = timed_words("list_runs");
+    let mut text = String::new();
+    let mut cells = vec!["call".to_string()];
+    cells.extend(words.iter().map(|(name, _)| name.to_string()));
+    cells.push("mean".to_string());
+    header(&mut text, &cells);
+    for timed in all {
+        let mut cells = vec![format!("`{}`", timed.call)];
+        cells.extend(timed.words.iter().map(|(_, sizes)| cell(&sizes[0])));
+        cells.resize(1 + words.len(), String::new());
+        cells.push(ratio(timed.ratio(0, 1)));
+        row(&mut text, &cells);
+    }
+    let over_calls = mean(all.iter().map(|timed| timed.ratio(0, 1)));
+    println!("Words of {LONGEST} letters: microseconds before / after, and after divided by before. Mean: the geometric mean of these.\n");
+    println!(
+        "{text}\nGeometric mean over the calls: {}",
+        ratio(over_calls)
+    );
+}
+
+/// The times of one word, the older archive's first, and their ratio.
+fn cell(times: &[f64]) -> String {
+    let (after, before) = (times[0], times[1]);
+    let times = [before, after].map(three_digits).join(" / ");
+    format!("{times}, {}", ratio(after / before))
+}
+
+fn ratio(value: f64) -> String {
+    format!("{value:.3}")
+}

@@ -1,0 +1,198 @@
+//! Counts (request C-12): the outside vectors' lists, marked words, and words of every kind, valid and damaged, on the library and on the
+//! second implementation; and what the request claims of a count and its list. A tracker's counts are also in `histories` and
+//! `made_trackers`.
+use crate::records::{read, read_runs, Answered, Call, CallsRecord, WordRecord};
+use crate::support::{assert_count_and_list_agree, assert_same_fields, seeded, shown, Shown};
+use crate::support::{not_a_letter, step, tracked, COUNT_CALLS, LIST_CALLS};
+use checks::calls::{Answer, Calls};
+use checks::generator::{abba, alternating, fibonacci, Generator};
+use checks::library::Library;
+use checks::reference::Reference;
+use luffbutton::{FIRST_LETTER, LETTERS, LONGEST};
+
+/// The library and the second implementation.
+const BOTH: [&dyn Calls; 2] = [&Library, &Reference];
+
+/// The counts are named after the list calls beside which they stand.
+#[test]
+fn every_list_call_has_its_count() {
+    for ((list, _), (count, _)) in LIST_CALLS.into_iter().zip(COUNT_CALLS) {
+        let listed = list.strip_prefix("list_").unwrap_or(list);
+        assert_eq!(count, format!("count_{listed}"));
+    }
+}
+
+/// The number of words of each list that the record has; those of runs have vectors of their own.
+fn due(name: &str, record: &WordRecord) -> Option<usize> {
+    match name {
+        "count_plain" | "count_skipping" => Some(record.periods.len()),
+        "count_full" | "count_full_scaled" => Some(record.full.len()),
+        "count_squares" => Some(record.squares.len()),
+        "count_report" => Some(record.report.len()),
+        _ => None,
+    }
+}
+
+fn words_agree(calls: &dyn Calls) {
+    for record in read().words {
+        let _shown = shown(&record.word);
+        for (name, count) in COUNT_CALLS {
+            if let Some(words) = due(name, &record) {
+                let answer = count(calls, &record.word);
+                assert_eq!(answer, Answer::of_words(words), "{name}");
+            }
+        }
+        let counted = calls.count(&tracked(calls, &record.word));
+        assert_eq!(counted, Answer::of_words(record.periods.len()), "count");
+    }
+}
+
+#[test]
+fn vectors_of_words_on_the_library() {
+    words_agree(&Library);
+}
+
+#[test]
+fn vectors_of_words_on_the_reference() {
+    words_agree(&Reference);
+}
+
+/// A run is two words.
+#[test]
+fn vectors_of_runs() {
+    for record in read_runs() {
+        let _shown = shown(&record.word);
+        for calls in BOTH {
+            let answer = calls.count_runs(&record.word);
+            assert_eq!(answer, Answer::of_words(2 * record.runs.len()));
+        }
+    }
+}
+
+/// What a count made just before the call answers, as far as the record says it: the number of words that a list has, which is given also
+/// where the slice is too short; and 6 where the call is refused with it.
+fn due_before(recorded: &Answered) -> Option<Answer> {
+    match (recorded.call, recorded.answer.number) {
+        (_, 6) => Some(recorded.answer),
+        (Call::List(_), 3) => Some(Answer::of_words(recorded.answer.value)),
+        (Call::List(_), _) => Some(recorded.answer),
+        _ => None,
+    }
+}
+
+/// The records' calls with a count before and behind each: they are answered as before, and leave the same tracker. Returns how many counts
+/// the records say something of.
+fn counts_among_calls_agree(calls: &dyn Calls, records: &[CallsRecord]) -> usize {
+    let mut compared = 0;
+    for record in records {
+        let _shown = Shown(format!("the record of line {}", record.line));
+        let mut tracker = record.before.clone();
+        for recorded in &record.calls {
+            let before = calls.count(&tracker);
+            let (answer, _) = step(calls, &mut tracker, recorded.call);
+            assert_eq!(answer, recorded.answer, "{:?}", recorded.call);
+            let behind = calls.count(&tracker);
+            if let Some(due) = due_before(recorded) {
+                assert_eq!([before, behind], [due; 2], "{:?}", recorded.call);
+                compared += 1;
+            }
+        }
+        assert_same_fields(&tracker, &record.after);
+    }
+    compared
+}
+
+#[test]
+fn vectors_of_trackers() {
+    let records = read();
+    for calls in BOTH {
+        let histories = counts_among_calls_agree(calls, &records.histories);
+        let made = counts_among_calls_agree(calls, &records.made);
+        assert_eq!((histories, made), (225, 30));
+    }
+}
+
+/// The numbers of document 01's marked words, of its report of abb and of C-11's example: periods, full periods, squares, words of runs,
+/// words of the report.
+#[test]
+fn marked_words() {
+    let table: [(&[u8], [usize; 5]); 6] = [
+        (b"", [0, 0, 0, 0, 1]),
+        (b"a", [1, 1, 0, 0, 3]),
+        (b"aa", [2, 2, 1, 2, 6]),
+        (b"abb", [2, 1, 1, 2, 5]),
+        (b"abba", [4, 2, 2, 4, 9]),
+        (b"abaababa", [16, 1, 6, 10, 24]),
+    ];
+    for (word, [periods, full, squares, runs, report]) in table {
+        let _shown = shown(word);
+        let due = [periods, periods, full, full, squares, runs, report];
+        for calls in BOTH {
+            for ((name, count), words) in COUNT_CALLS.into_iter().zip(due) {
+                assert_eq!(count(calls, word), Answer::of_words(words), "{name}");
+            }
+            let counted = calls.count(&tracked(calls, word));
+            assert_eq!(counted, Answer::of_words(periods), "count");
+        }
+    }
+}
+
+/// Compares every count on a word with the second implementation, and holds it against the library's own list. Returns the number of the
+/// refusal, or 0.
+fn compare(word: &[u8], generator: &mut Generator) -> usize {
+    let _shown = shown(word);
+    let mut number = 0;
+    for ((_, list), (name, count)) in LIST_CALLS.into_iter().zip(COUNT_CALLS) {
+        let counted = count(&Library, word);
+        assert_eq!(counted, count(&Reference, word), "{name}");
+        let list = |out: &mut [u32]| list(&Library, word, out);
+        assert_count_and_list_agree(name, counted, list, generator);
+        number = counted.number;
+    }
+    number
+}
+
+/// One word of each kind of the generator's.
+fn words(generator: &mut Generator, n: usize, k: usize) -> [Vec<u8>; 3] {
+    let (uniform, (cyclic, _)) = (generator.uniform(n, k), generator.cyclic(n, k));
+    [uniform, cyclic, generator.near_miss(n, k)]
+}
+
+#[test]
+fn random_words() {
+    let mut generator = seeded(120);
+    for n in (1..=40).chain([97, 121, 239, LONGEST]) {
+        for k in [1, 2, 3, 5, LETTERS] {
+            for word in words(&mut generator, n, k) {
+                assert_eq!(compare(&word, &mut generator), 0);
+            }
+        }
+    }
+}
+
+#[test]
+fn words_with_many_cycles() {
+    let mut generator = seeded(121);
+    for n in [0, 1, 2, 3, 4, 5, 16, 60, 120, 239, LONGEST] {
+        for word in [vec![FIRST_LETTER; n], alternating(n), fibonacci(n), abba(n)] {
+            assert_eq!(compare(&word, &mut generator), 0);
+        }
+    }
+}
+
+/// Words with bytes that are no letters, and words that are too long, with such bytes and without: these are refused for their length.
+#[test]
+fn damaged_words() {
+    let mut generator = seeded(122);
+    for n in (1..=30).chain([120, 239, LONGEST, LONGEST + 1, LONGEST + 2, 256, 481, 1000]) {
+        for mut word in words(&mut generator, n, 3) {
+            let too_long = usize::from(n > LONGEST);
+            assert_eq!(compare(&word, &mut generator), too_long);
+            for _ in 0..1 + generator.below(3) {
+                let at = generator.below(n);
+                word[at] = not_a_letter(&mut generator);
+            }
+            assert_eq!(compare(&word, &mut generator), 2 - too_long);
+        }
+    }
+}
