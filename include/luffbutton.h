@@ -49,11 +49,11 @@
  * changed. There is one exception: a luff_tracker_replay whose list is refused with 3 has still made its calls. Its tracker is as they
  * leave it, and `refused` says how many of them were refused.
  *
- * COUNTS. Each list call has a count beside it, luff_count_plain for luff_list_plain and so on, which says how many words that call writes.
- * It finds them in the same way, takes no places and writes nothing. It is refused where the list is, for the same reason, but never for
- * length. Where it is accepted, the list is accepted with as many places as it says or more, and with fewer it is refused with 3. So a
- * caller that allocates asks for the count and then makes the list. The list finds its words again, and a luff_report with just as many
- * places counts again too; who can spare the places of the longest list (LUFF_MOST_.., LUFF_BOUND_RUNS) need not ask.
+ * COUNTS. Each list call but luff_tracker_replay has a count beside it, luff_count_plain for luff_list_plain and so on, which says how many
+ * words that call writes. It goes the same way as the list, but takes no places and writes nothing. It meets every refusal of the list but
+ * 3. Where it is accepted, the list is accepted with as many places as it says or more, and with fewer it is refused with 3. So a caller
+ * that allocates asks for the count and then makes the list. The list finds its words again, and a luff_report with just as many places
+ * counts again too; who can spare places enough for every word (LUFF_MOST_.., LUFF_BOUND_RUNS) need not ask.
  *
  * WHAT A CALLER OWES. No pointer is NULL, also not that of an empty word or of no places: pass any address of the program's, such as that
  * of a variable of the pointer's type. A pointer leads to as many bytes or places as are said, aligned as its type asks. What a call may

@@ -1,5 +1,5 @@
 /*
- * The smallest program: prints the Abelian periods of a word, head and period. It asks how many there are, allocates as many places, and
+ * The smallest program: prints the Abelian periods of a word, head and period. It asks how many there are, allocates places for them, and
  * then lists them.
  */
 #include <stdio.h>
@@ -19,6 +19,7 @@ int main(void)
     if (out == NULL) {
         return 1;
     }
+    /* This is not refused: the count was accepted, and there are as many places as it said. */
     struct luff_listed listed = luff_list_plain(word, sizeof word, out, counted.words);
     for (size_t i = 0; i < listed.written; i++) {
         printf("(%u, %u)\n", (unsigned)LUFF_WORD_LOWER(out[i]), (unsigned)LUFF_WORD_UPPER(out[i]));

@@ -1,5 +1,5 @@
 // The board: one entry for each pair in range for 240, in pair order. Where the row of a period begins and how long it is, and the pairs
-// whose entry is 0 counted and written: the tracker's list and both listers end in these two. For the crates above.
+// whose entry is 0 counted and written: the tracker's list and both listers end in these two, and their counts in the first. For the crates above.
 pub mod ending;
 mod row_starts;
 

@@ -54,7 +54,7 @@ pub fn list_full_scaled(word: &[u8], out: &mut [u32]) -> Scaled
     Scaled::Written { words, s, t }
 }
 
-// The number of full periods of a word that may be taken. For the crates above.
+// The number of full periods of a word that may be taken, by the scaled path. For the count and the crates above.
 pub fn number_of_full_periods(word: &[u8]) -> usize
     requires { ⌜ T (ofLetters (now word)) ⌝ }
     requires { ⌜ length (now word) ≤ longest ⌝ }

@@ -31,7 +31,7 @@ pub(crate) fn try_candidates(word: &[u8], board: &mut [u8; BOARD]) -> usize
     end_pairs(word, &counts, board)
 }
 
-// The number of Abelian periods of a word that may be taken. For the crates above.
+// The number of Abelian periods of a word that may be taken. For the skipping lister's count and the crates above.
 pub fn number_of_periods(word: &[u8]) -> usize
     requires { ⌜ T (ofLetters (now word)) ⌝ }
     requires { ⌜ length (now word) ≤ longest ⌝ }

@@ -67,7 +67,7 @@ pub extern "C" fn luff_tracker_clear_fields(
     of_outcome(tracker::in_place::clear(len, bytes, board))
 }
 
-// Lists the open pairs in range for the letters held. The fields are read alone.
+// Lists the open pairs in range for the letters held. The fields are lent for reading alone.
 #[no_mangle]
 pub extern "C" fn luff_tracker_list_fields<'a>(
     len: usize,
@@ -81,7 +81,7 @@ pub extern "C" fn luff_tracker_list_fields<'a>(
     of_wrote(tracker::in_place::list(len, bytes, board, out))
 }
 
-// Counts the pairs that a list would write. The fields are read alone.
+// Counts the pairs that a list would write. The fields are lent for reading alone.
 #[no_mangle]
 pub extern "C" fn luff_tracker_count_fields<'a>(
     len: usize,

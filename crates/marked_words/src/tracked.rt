@@ -130,7 +130,7 @@ fn reopened(tracker: Tracker) -> Tracker {
     other
 }
 
-// The tracker after a byte of a list of calls. `=` is a count, which a log has not. Four bytes stand for no call, but set the tracker by hand:
+// The tracker after a byte of a list of calls. `=` is a count, for which a log has no byte. Four bytes stand for no call, but set the tracker by hand:
 // `*` makes it full, `#` sets its length to 241, `_` its first byte to 0, and `0` the entry of (0, 1) to 0.
 fn run_byte(tracker: Tracker, byte: u8) -> Tracker {
     match byte {

@@ -40,7 +40,7 @@ pub fn list_squares(word: &[u8], out: &mut [u32]) -> Wrote
     Wrote::Words(needed)
 }
 
-// The number of squares of a word that may be taken. For the crates above.
+// The number of squares of a word that may be taken. For the count and the crates above.
 pub fn number_of_squares(word: &[u8]) -> usize
     requires { ⌜ T (ofLetters (now word)) ⌝ }
     requires { ⌜ length (now word) ≤ longest ⌝ }

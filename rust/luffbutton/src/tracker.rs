@@ -67,7 +67,7 @@ impl Tracker {
     }
 
     /// How many words [`list`](Tracker::list) writes, and so how many places it needs: the number of the Abelian periods of the letters
-    /// held. It is not refused: 6 alone would be a reason, and no tracker made by its calls is damaged.
+    /// held. It is never refused: the one reason would be 6, a damaged tracker, and none made by its calls is.
     pub fn count(&self) -> Result<usize, Refusal> {
         counted(numbers::count(&self.fields))
     }
