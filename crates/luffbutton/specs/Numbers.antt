@@ -12,10 +12,10 @@ use Rattle.luffbutton.specs.declared.numbers.LuffCover.{LuffCover}
 use Rattle.luffbutton.specs.declared.numbers.LuffOutcome.{LuffOutcome}
 use Rattle.luffbutton.specs.declared.numbers.LuffReplayed.{LuffReplayed}
 
--- of a call that writes a list: number, value, written, trials, s, T and the slice
+-- of a call that writes a list or counts one: number, value, words, trials, s, T and the slice
 abbrev pub listAnswer : ℕ → ℕ → ℕ → ℕ → ℕ → ℕ → List ℕ → Answer
-listAnswer n v written trials s t out =
-    record { number = n; value = v; written = written; trials = trials; s = s; t = t; yes = 0; block = 0; letter = 0; cover = 0; output = out }
+listAnswer n v words trials s t out =
+    record { number = n; value = v; written = words; trials = trials; s = s; t = t; yes = 0; block = 0; letter = 0; cover = 0; output = out }
 
 -- of any other call: number, value, yes, block, letter and the cover's length
 abbrev pub decisionAnswer : ℕ → ℕ → ℕ → ℕ → ℕ → ℕ → Answer
