@@ -1,29 +1,29 @@
--- C-12: every count goes with its write, for every word, tracker and slice.
+-- C-12: every count goes with its write, for every word, pattern, record, tracker and slice.
 use Prim.Native.Nat.{ℕ}
-use mathlib.Core.Path.{_≡_, refl}
+use mathlib.Core.Path.{_≡_, refl, subst}
 use mathlib.Core.Logic.{_≢_, ⊎-elim}
 use mathlib.Core.Bool.{Bool, true, false, not}
 use mathlib.Core.Option.{Option, none, some}
-use mathlib.Core.List.{List, []}
+use mathlib.Core.List.{List, [], _∷_, _++_}
 use native.Mathlib.Omega.{arith}
 use lib.ListN.{length}
-use lib.Dec.{eqb, ltb}
+use lib.Dec.{T, eqb, ltb}
 use borrow.Author.Tests.{lt-ltb, le-ltb, ltb-true}
-use Rattle.abelian.specs.Lists.{pick}
-use Rattle.abelian.specs.Words.{alphabetSize, longest, firstOutside}
-use Rattle.abelian.specs.Refusals.{numberOf, firstHolding, wordRefusal, trackerRefusal}
+use Rattle.abelian.specs.Lists.{pick, all}
+use Rattle.abelian.specs.Refusals.{numberOf, Condition, condition, firstHolding, aboveLongest, byteOutside, tooFewPlaces, wordRefusal, windowRefusal, trackerRefusal}
 use Rattle.abelian.specs.Answers.{Answer, refusing, counting, unless}
-use Rattle.abelian.specs.Calls.{writingWords, listing, countWords, periodWords, fullWords, reportWords, plainListing, skippingListing, fullListing, scaledListing, squareListing, runListing, reporting, periodCount, fullCount, squareCount, runCount, reportCount}
+use Rattle.abelian.specs.Calls.{writingWords, listing, countWords, periodWords, fullWords, reportWords, plainListing, skippingListing, fullListing, scaledListing, squareListing, runListing, windowListing, reporting, periodCount, fullCount, squareCount, runCount, windowCount, reportCount}
 use Rattle.abelian.specs.Trials.{plainTrials, skippingTrials}
 use Rattle.abelian.specs.FullPeriods.{scale, scaledGap}
 use Rattle.abelian.specs.Squares.{squareWords}
 use Rattle.abelian.specs.Runs.{runWords}
+use Rattle.abelian.specs.Windows.{longestRecord, windowWords}
 use Rattle.abelian.specs.Trackers.{damaged, stepUnless, openWords, trackerListing, trackerCount}
 use Rattle.abelian.specs.CountAndWrite.{WritesAsCounted}
 use Rattle.abelian.specs.declared.Refusal.{Refusal}
-use Rattle.abelian.specs.declared.Refusal.the-variants.{TooLong, NotALetter, SliceTooShort, TrackerDamaged}
+use Rattle.abelian.specs.declared.Refusal.the-variants.{SliceTooShort, TrackerDamaged, PairOutOfRange, PatternEmpty, RecordTooLong}
 use Rattle.abelian.specs.declared.Tracker.{Tracker}
-use Rattle.abelian.proofs.Tests.{decided}
+use Rattle.abelian.proofs.Tests.{decided, left, right}
 use Rattle.abelian.proofs.Refusals.{refusal-number}
 
 -- ---- refused alike, or accepted but for the slice
@@ -65,17 +65,36 @@ module _ (ws : List ℕ) (trials s t : ℕ) (write : List ℕ → Answer) (is : 
         (decided (ltb (length out) (length ws)));
   }
 
+-- ---- by the order of refusals
+
+-- the condition's refusal is not the one for a slice's length
+abbrev notForLength : Condition → Bool
+notForLength c = not (eqb (numberOf (c .refusal)) 3)
+
+module _ (ws : List ℕ) (trials s t : ℕ) where
+  -- one condition more, read before those of a count and its write
+  condition-more : (b : Bool) (r : Refusal) → numberOf r ≢ 3 → (o : Option Refusal) (q : List ℕ → Option Refusal)
+      → WritesAsCounted (unless o [] (counting (length ws))) (λ (out : List ℕ). unless (q out) out (writingWords ws trials s t out))
+      → WritesAsCounted (unless (pick b (some r) o) [] (counting (length ws))) (λ (out : List ℕ). unless (pick b (some r) (q out)) out (writingWords ws trials s t out))
+  condition-more true r n o q h = refused-counted r n
+  condition-more false r n o q h = h
+
+  -- a count that reads the conditions, and a write that reads the slice's length behind them
+  conditions-as-counted : (cs : List Condition) → T (all notForLength cs)
+      → WritesAsCounted (unless (firstHolding cs) [] (counting (length ws)))
+      (λ (out : List ℕ). unless (firstHolding (cs ++ (tooFewPlaces (length ws) (length out) ∷ []))) out (writingWords ws trials s t out))
+  unfolding firstHolding
+  conditions-as-counted [] n = accepted-counted ws trials s t _ (λ out. refl)
+  conditions-as-counted (c ∷ cs) n =
+      condition-more (c .holds) (c .refusal) (λ e. subst (λ (k : ℕ). T (not (eqb k 3))) e (left (notForLength c) (all notForLength cs) n)) (firstHolding cs)
+      (λ (out : List ℕ). firstHolding (cs ++ (tooFewPlaces (length ws) (length out) ∷ []))) (conditions-as-counted cs (right (notForLength c) (all notForLength cs) n))
+
 -- ---- a word's lists
 
 listing-as-counted : (w ws : List ℕ) (trials s t : ℕ) → WritesAsCounted (countWords w ws) (λ (out : List ℕ). listing w out ws trials s t)
 unfolding countWords listing wordRefusal firstHolding
-listing-as-counted w ws trials s t = go (ltb longest (length w)) (not (eqb (firstOutside alphabetSize w) 0)) (NotALetter (firstOutside alphabetSize w)) (λ e. omega arith)
-  where
-    go : (long outside : Bool) (r : Refusal) → numberOf r ≢ 3 → WritesAsCounted (unless (pick long (some TooLong) (pick outside (some r) none)) [] (counting (length ws)))
-        (λ (out : List ℕ). unless (pick long (some TooLong) (pick outside (some r) (forLength ws out))) out (writingWords ws trials s t out))
-    go true outside r n = refused-counted TooLong (λ e. omega arith)
-    go false true r n = refused-counted r n
-    go false false r n = accepted-counted ws trials s t _ (λ out. refl)
+listing-as-counted w ws trials s t =
+    conditions-as-counted ws trials s t (aboveLongest w ∷ byteOutside w ∷ condition false PairOutOfRange ∷ []) tt
 
 module _ (w : List ℕ) where
   pub plain-as-counted : WritesAsCounted (periodCount w) (plainListing w)
@@ -105,6 +124,20 @@ module _ (w : List ℕ) where
   pub report-as-counted : WritesAsCounted (reportCount w) (reporting w)
   unfolding reportCount reporting
   report-as-counted = listing-as-counted w (reportWords w) 0 0 0
+
+-- ---- the list of windows
+
+pub windows-as-counted : (pattern events : List ℕ) → WritesAsCounted (windowCount pattern events) (windowListing pattern events)
+unfolding windowCount windowListing windowRefusal firstHolding
+windows-as-counted pattern events =
+    conditions-as-counted (windowWords pattern events) 0 0 0
+    (aboveLongest pattern
+    ∷ byteOutside pattern
+    ∷ condition (eqb (length pattern) 0) PatternEmpty
+    ∷ condition (ltb longestRecord (length events)) RecordTooLong
+    ∷ byteOutside events
+    ∷ [])
+    tt
 
 -- ---- a tracker's list
 

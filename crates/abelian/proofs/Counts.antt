@@ -12,6 +12,7 @@ use borrow.Author.Tests.{eqb-true, eqb-false, ne-eqb}
 use Rattle.abelian.specs.Lists.{pick, one, upFrom, sum}
 use Rattle.abelian.specs.Words.{alphabetSize, firstLetter, letters, isLetter, outsideFrom, firstOutside, ofLetters, count, vector, noneAbove, contained, part}
 use Rattle.abelian.proofs.Tests.{is-true, both, left, right, decided}
+use Rattle.abelian.proofs.Lists.{upFrom-mem}
 
 -- ---- counts of parts
 
@@ -118,6 +119,11 @@ letter-bounds size b t = (
 pub bounds-letter : (size b : ℕ) → firstLetter ≤ b → b < firstLetter + size → T (isLetter size b)
 unfolding isLetter
 bounds-letter size b h l = both (leb firstLetter b) (ltb b (firstLetter + size)) (le→leb firstLetter b h) (lt→ltb b (firstLetter + size) l)
+
+-- a letter is among the letters
+pub isLetter-mem : (b : ℕ) → T (isLetter alphabetSize b) → List·Memᴰ b letters
+unfolding letters
+isLetter-mem b t = let h : (firstLetter ≤ b) × (b < firstLetter + alphabetSize) = letter-bounds alphabetSize b t in upFrom-mem firstLetter alphabetSize b (h .0) (h .1)
 
 -- of the numbers from a on none is x where x is below a, and one is where x is among them
 sum-none : (x a n : ℕ) → x < a → sum (map (λ (c : ℕ). one (eqb x c)) (upFrom a n)) ≡ 0

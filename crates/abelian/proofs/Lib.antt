@@ -6,6 +6,7 @@ pub mod Definition1
 pub mod Largest
 pub mod Blocks
 pub mod Runs
+pub mod Windows
 pub mod Refusals
 pub mod CountAndWrite
 pub mod Marked

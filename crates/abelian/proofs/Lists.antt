@@ -9,7 +9,7 @@ use native.Mathlib.Omega.{arith}
 use lib.ListN.{length, length-append}
 use lib.Dec.{T, eqb, ltb, eqb→eq, eqb-refl}
 use borrow.Author.Tests.{eqb-true, eqb-false, ltb-true, ltb-false, ne-eqb}
-use Rattle.abelian.specs.Lists.{pick, upFrom, largest, same, put, keep, all, each, firstOf, Ordered}
+use Rattle.abelian.specs.Lists.{pick, one, upFrom, largest, same, put, keep, all, each, firstOf, Ordered}
 use Rattle.abelian.proofs.Tests.{is-false, both, left, right, decided, passes, fails}
 
 -- ---- equal lists of numbers
@@ -128,6 +128,27 @@ keep-append f (x ∷ xs) ys = go (f x) (keep-append f xs ys)
     go : (b : Bool) → keep f (xs ++ ys) ≡ keep f xs ++ keep f ys → put b x (keep f (xs ++ ys)) ≡ put b x (keep f xs) ++ keep f ys
     go true e = ap (λ l. x ∷ l) e
     go false e = e
+
+-- one number more is kept behind the others where it passes
+pub keep-more : (f : ℕ → Bool) (a n : ℕ) → keep f (upFrom a (suc n)) ≡ keep f (upFrom a n) ++ put (f (a + n)) (a + n) []
+keep-more f a n = ap (keep f) (upFrom-last a n) ∙ keep-append f (upFrom a n) ((a + n) ∷ [])
+
+-- so one number more is one more kept, where it passes
+pub length-keep-more : (f : ℕ → Bool) (a n : ℕ) → length (keep f (upFrom a (suc n))) ≡ length (keep f (upFrom a n)) + one (f (a + n))
+length-keep-more f a n = ap length (keep-more f a n) ∙ length-append (keep f (upFrom a n)) (put (f (a + n)) (a + n) []) ∙ ap (λ (k : ℕ). length (keep f (upFrom a n)) + k) (go (f (a + n)))
+  where
+    go : (b : Bool) → length (put b (a + n) []) ≡ one b
+    go true = refl
+    go false = refl
+
+-- no more are kept than there are
+pub keep-shorter : {A : Type 0} (f : A → Bool) (xs : List A) → length (keep f xs) ≤ length xs
+keep-shorter f [] = omega arith
+keep-shorter f (x ∷ xs) = go (f x) (keep-shorter f xs)
+  where
+    go : (b : Bool) → length (keep f xs) ≤ length xs → length (put b x (keep f xs)) ≤ suc (length xs)
+    go true h = omega arith
+    go false h = omega arith
 
 -- kept by one test and then by another
 pub keep-keep : {A : Type 0} (f g : A → Bool) (xs : List A) → keep f (keep g xs) ≡ keep (λ (x : A). f x && g x) xs

@@ -1,4 +1,4 @@
--- What each call on a word answers, and what it leaves in the slice: from the word and, for a list, the slice as it came.
+-- What each call on a word, or on a pattern and a record, answers, and what it leaves in the slice: from these and, for a list, the slice as it came.
 use Prim.Native.Nat.{ℕ}
 use mathlib.Core.Bool.{false, not}
 use mathlib.Core.List.{List, [], _∷_, _++_, map}
@@ -12,8 +12,9 @@ use Rattle.abelian.specs.FullPeriods.{fullPeriods, scale, scaledGap}
 use Rattle.abelian.specs.Judge.{Failure, failures}
 use Rattle.abelian.specs.Squares.{squareWords}
 use Rattle.abelian.specs.Runs.{runWords}
+use Rattle.abelian.specs.Windows.{windowWords}
 use Rattle.abelian.specs.Covers.{coverLength}
-use Rattle.abelian.specs.Refusals.{wordRefusal}
+use Rattle.abelian.specs.Refusals.{wordRefusal, windowRefusal}
 use Rattle.abelian.specs.Answers.{Answer, writing, counting, deciding, unless}
 
 -- yes, or the first failure
@@ -81,6 +82,14 @@ runListing w out = listing w out (runWords w) 0 0 0
 
 unfoldable pub runCount : List ℕ → Answer
 runCount w = countWords w (runWords w)
+
+-- "Anagram windows" (C-13): refusals 1, 2, 8, 9, 2, 3, else the list; and the number of its words, with these refusals but 3.
+unfoldable pub windowListing : List ℕ → List ℕ → List ℕ → Answer
+windowListing pattern events out =
+    unless (windowRefusal pattern events (length (windowWords pattern events)) (length out)) out (writingWords (windowWords pattern events) 0 0 0 out)
+
+unfoldable pub windowCount : List ℕ → List ℕ → Answer
+windowCount pattern events = unless (windowRefusal pattern events 0 0) [] (counting (length (windowWords pattern events)))
 
 -- none, where the cover length is 0, or the length
 unfoldable pub noneOrLength : ℕ → Answer

@@ -8,6 +8,7 @@ pub mod EndedLengths
 pub mod Judge
 pub mod Squares
 pub mod Runs
+pub mod Windows
 pub mod Covers
 pub mod Refusals
 pub mod Answers

@@ -8,15 +8,17 @@ use lib.Dec.{eqb, ltb}
 use Rattle.abelian.specs.Lists.{pick, one, same, largest, each}
 use Rattle.abelian.specs.Words.{alphabetSize, firstLetter, longest}
 use Rattle.abelian.specs.Periods.{Pair, pair, pairs}
-use Rattle.abelian.specs.Output.{periodWord, squareWord}
+use Rattle.abelian.specs.Output.{periodWord, squareWord, windowWord}
 use Rattle.abelian.specs.Trials.{plainTrials, skippingTrials}
 use Rattle.abelian.specs.FullPeriods.{fullPeriods, scale, scaledGap}
 use Rattle.abelian.specs.EndedLengths.{endedLength}
 use Rattle.abelian.specs.Squares.{squareWords}
 use Rattle.abelian.specs.Runs.{Run, run, wordsOfRun, runWords}
+use Rattle.abelian.specs.Windows.{windowWords}
 use Rattle.abelian.specs.Answers.{Answer, writing, counting, deciding}
 use Rattle.abelian.specs.Calls.{judging, periodWords, reportWords, plainListing, skippingListing, fullListing, scaledListing, squareListing, runListing, coverAnswer, reporting}
 use Rattle.abelian.specs.Calls.{periodCount, fullCount, squareCount, runCount, reportCount}
+use Rattle.abelian.specs.Calls.{windowListing, windowCount}
 use Rattle.abelian.specs.Trackers.{entries, freshTracker, adding, takingBack, clearing, trackerListing, trackerCount}
 use Rattle.abelian.specs.declared.Tracker.{Tracker}
 
@@ -30,6 +32,8 @@ pub data Row : Type 0 where
   squaresAre : List ℕ → List ℕ → Row
   -- the runs, in order
   runsAre : List ℕ → List Run → Row
+  -- the starts of a pattern's windows in a record
+  windowsAre : List ℕ → List ℕ → List ℕ → Row
   -- the lengths of which the answered cover's is one; no cover where there is none
   coverIsOneOf : List ℕ → List ℕ → Row
   -- s and T
@@ -88,6 +92,7 @@ rowHolds (periodsAre w xs) = same (periodWords w) (map periodWord xs)
 rowHolds (fullAre w ps) = same (fullPeriods w) ps
 rowHolds (squaresAre w ws) = same (squareWords w) ws
 rowHolds (runsAre w rs) = same (runWords w) (each rs wordsOfRun)
+rowHolds (windowsAre pattern events starts) = same (windowWords pattern events) (map windowWord starts)
 rowHolds (coverIsOneOf w ms) = answersOneOf (coverAnswer w) ms
 rowHolds (scaledBy w s t) = eqb (scale w) s && eqb (scaledGap w) t
 rowHolds (trialsAre w plain skipping) = eqb (plainTrials w) plain && eqb (skippingTrials w) skipping
@@ -245,6 +250,13 @@ abab = a ∷ b ∷ a ∷ b ∷ []
 abbrev ababa : List ℕ
 ababa = a ∷ b ∷ a ∷ b ∷ a ∷ []
 
+-- the record of C-13's rows, and one that is a letter too long
+abbrev abbaab : List ℕ
+abbaab = a ∷ b ∷ b ∷ a ∷ a ∷ b ∷ []
+
+abbrev aboveRecords : List ℕ
+aboveRecords = replicate 65537 a
+
 -- Rows of document 02.
 unfoldable pub requested : List Row
 requested =
@@ -275,4 +287,30 @@ requested =
     ∷ counts (trackerCount given .answer) 2
     ∷ counts (trackerCount (made 2 (a ∷ a ∷ 0 ∷ []) (7 ∷ 0 ∷ [])) .answer) 1
     ∷ refuses (trackerCount (made 241 [] []) .answer) 6 0 []
+    -- C-13: windows side by side and over each other; the empty record, one shorter than the pattern, one as long
+    ∷ windowsAre (a ∷ b ∷ []) abbaab (1 ∷ 3 ∷ 5 ∷ [])
+    ∷ windowsAre (a ∷ a ∷ []) (a ∷ a ∷ a ∷ a ∷ []) (1 ∷ 2 ∷ 3 ∷ [])
+    ∷ windowsAre (a ∷ []) [] []
+    ∷ windowsAre abb (a ∷ b ∷ []) []
+    ∷ windowsAre abb (b ∷ b ∷ a ∷ []) (1 ∷ [])
+    -- a window of the pattern's letters in another number, and one that is no rotation of the pattern
+    ∷ windowsAre (a ∷ a ∷ b ∷ c ∷ []) (b ∷ b ∷ b ∷ a ∷ c ∷ a ∷ []) (3 ∷ [])
+    -- the words by their numbers, and the number of words
+    ∷ writes (windowListing (a ∷ b ∷ []) abbaab (5 ∷ 6 ∷ 7 ∷ 8 ∷ [])) 3 0 0 0 (1879048193 ∷ 1879048195 ∷ 1879048197 ∷ 8 ∷ [])
+    ∷ refuses (windowListing (a ∷ b ∷ []) abbaab (5 ∷ 6 ∷ [])) 3 3 (5 ∷ 6 ∷ [])
+    ∷ counts (windowCount (a ∷ b ∷ []) abbaab) 3
+    ∷ counts (windowCount (a ∷ []) []) 0
+    ∷ counts (windowCount abb (a ∷ b ∷ [])) 0
+    -- a record above the longest word is read
+    ∷ counts (windowCount (b ∷ []) (replicate 241 a)) 0
+    -- each refusal before those behind it: 1, the pattern's 2 and 8, which exclude each other, 9, the record's 2, 3
+    ∷ refuses (windowCount (B ∷ replicate 240 a) aboveRecords) 1 0 []
+    ∷ refuses (windowCount (a ∷ B ∷ []) aboveRecords) 2 2 []
+    ∷ refuses (windowCount (a ∷ B ∷ []) (B ∷ [])) 2 2 []
+    ∷ refuses (windowCount [] aboveRecords) 8 0 []
+    ∷ refuses (windowCount [] (B ∷ [])) 8 0 []
+    ∷ refuses (windowCount (a ∷ []) (B ∷ replicate 65536 a)) 9 0 []
+    ∷ refuses (windowCount (a ∷ []) (B ∷ replicate 65535 a)) 2 1 []
+    ∷ refuses (windowCount abb (B ∷ [])) 2 1 []
+    ∷ refuses (windowListing (a ∷ []) (a ∷ a ∷ B ∷ B ∷ []) (5 ∷ [])) 2 3 (5 ∷ [])
     ∷ []

@@ -28,6 +28,10 @@ runWord d i = outputWord 5 d i
 unfoldable pub handsWord : ℕ → ℕ → ℕ → ℕ
 handsWord j left right = 6 * 2 ^ 28 + j * 2 ^ 16 + left * 2 ^ 8 + right
 
+-- C-13's "7 × 2^28 + start": the start of a window in a record.
+unfoldable pub windowWord : ℕ → ℕ
+windowWord start = 7 * 2 ^ 28 + start
+
 -- "8 report head": n above, and below 1 if a cover exists, else 0.
 unfoldable pub reportHead : ℕ → ℕ → ℕ
 reportHead n covered = outputWord 8 n covered

@@ -7,10 +7,11 @@ use lib.ListN.{length}
 use lib.Dec.{eqb, ltb}
 use Rattle.abelian.specs.Lists.{pick}
 use Rattle.abelian.specs.Words.{alphabetSize, longest, firstOutside}
+use Rattle.abelian.specs.Windows.{longestRecord}
 use Rattle.abelian.specs.declared.Refusal.{Refusal}
-use Rattle.abelian.specs.declared.Refusal.the-variants.{TooLong, NotALetter, SliceTooShort, TrackerFull, TrackerEmpty, TrackerDamaged, PairOutOfRange}
+use Rattle.abelian.specs.declared.Refusal.the-variants.{TooLong, NotALetter, SliceTooShort, TrackerFull, TrackerEmpty, TrackerDamaged, PairOutOfRange, PatternEmpty, RecordTooLong}
 
--- the number in the table
+-- the number: document 01's table, and from 8 on document 02
 abbrev pub numberOf : Refusal → ℕ
 numberOf TooLong = 1
 numberOf (NotALetter position) = 2
@@ -19,8 +20,10 @@ numberOf TrackerFull = 4
 numberOf TrackerEmpty = 5
 numberOf TrackerDamaged = 6
 numberOf PairOutOfRange = 7
+numberOf PatternEmpty = 8
+numberOf RecordTooLong = 9
 
--- the value: 0 unless the table names one
+-- the value: 0 unless the documents name one
 abbrev pub valueOf : Refusal → ℕ
 valueOf TooLong = 0
 valueOf (NotALetter position) = position
@@ -29,6 +32,8 @@ valueOf TrackerFull = 0
 valueOf TrackerEmpty = 0
 valueOf TrackerDamaged = 0
 valueOf PairOutOfRange = 0
+valueOf PatternEmpty = 0
+valueOf RecordTooLong = 0
 
 -- A refusal, and whether its condition holds.
 pub record Condition : Type 0 where
@@ -43,14 +48,33 @@ unfoldable pub firstHolding : List Condition → Option Refusal
 firstHolding [] = none
 firstHolding (c ∷ cs) = pick (c .holds) (some (c .refusal)) (firstHolding cs)
 
+-- the lines that stand in more than one order: 1 and 2 of a word, 2 of a record too, and 3
+abbrev pub aboveLongest : List ℕ → Condition
+aboveLongest w = condition (ltb longest (length w)) TooLong
+
+abbrev pub byteOutside : List ℕ → Condition
+byteOutside w = condition (not (eqb (firstOutside alphabetSize w) 0)) (NotALetter (firstOutside alphabetSize w))
+
+abbrev pub tooFewPlaces : ℕ → ℕ → Condition
+tooFewPlaces needed places = condition (ltb places needed) (SliceTooShort needed)
+
 -- "Order on a word: 1, 2, 7, 3", of a call that has a pair out of range or not, and needs so many words of a slice of so many places.
 unfoldable pub wordRefusal : List ℕ → Bool → ℕ → ℕ → Option Refusal
 wordRefusal w outOfRange needed places =
+    firstHolding (aboveLongest w ∷ byteOutside w ∷ condition outOfRange PairOutOfRange ∷ tooFewPlaces needed places ∷ [])
+
+-- C-13, on a pattern and a record: "The pattern is checked as a word first, then the record's letters, with 2 giving the position in whichever failed. 8 when the pattern is
+-- empty, after the pattern's 2; 9 when the record is above 65,536 bytes, next and before the record's letters." So 1, 2, 8, 9, 2, 3, of a call that needs so many words of a
+-- slice of so many places; and a record is no word, so that 1 is never given for it.
+unfoldable pub windowRefusal : List ℕ → List ℕ → ℕ → ℕ → Option Refusal
+windowRefusal pattern events needed places =
     firstHolding
-    (condition (ltb longest (length w)) TooLong
-    ∷ condition (not (eqb (firstOutside alphabetSize w) 0)) (NotALetter (firstOutside alphabetSize w))
-    ∷ condition outOfRange PairOutOfRange
-    ∷ condition (ltb places needed) (SliceTooShort needed)
+    (aboveLongest pattern
+    ∷ byteOutside pattern
+    ∷ condition (eqb (length pattern) 0) PatternEmpty
+    ∷ condition (ltb longestRecord (length events)) RecordTooLong
+    ∷ byteOutside events
+    ∷ tooFewPlaces needed places
     ∷ [])
 
 -- "On a tracker: 6, 2, 4, 5, 3", of a call that meets these conditions or not, and needs so many words of a slice of so many places.
@@ -61,5 +85,5 @@ trackerRefusal damaged notALetter full empty needed places =
     ∷ condition notALetter (NotALetter 1)
     ∷ condition full TrackerFull
     ∷ condition empty TrackerEmpty
-    ∷ condition (ltb places needed) (SliceTooShort needed)
+    ∷ tooFewPlaces needed places
     ∷ [])

@@ -12,6 +12,9 @@ pub const FIRST_LETTER: u8 = 97;
 // The longest word.
 pub const LONGEST: usize = 240;
 
+// The longest record.
+pub const LONGEST_RECORD: usize = 65536;
+
 // A board's entries, one for each pair in range for 240.
 pub const BOARD: usize = 14520;
 
@@ -23,11 +26,11 @@ pub struct Head(pub usize);
 #[repr(C)]
 pub struct Period(pub usize);
 
-// Why a call was refused, in the order of document 01's table. A case that has a value holds it.
+// Why a call was refused, in the order of the numbers that documents 01 and 02 give. A case that has a value holds it.
 pub enum Refusal {
     // 1: a word above 240 letters.
     TooLong,
-    // 2: a byte that is no letter; the first such position, 1 for an add.
+    // 2: a byte that is no letter; the first such position, in the word or in the record, 1 for an add.
     NotALetter(usize),
     // 3: a list longer than the slice; the words needed.
     SliceTooShort(usize),
@@ -39,9 +42,13 @@ pub enum Refusal {
     TrackerDamaged,
     // 7: the judge's pair out of range.
     PairOutOfRange,
+    // 8: the pattern of windows is empty.
+    PatternEmpty,
+    // 9: a record above 65,536 bytes.
+    RecordTooLong,
 }
 
-// A refusal's number in document 01's table.
+// A refusal's number.
 pub fn number(refusal: Refusal) -> usize
     ensures { λ r. ⌜ r ≡ numberOf refusal ⌝ }
 {
@@ -53,6 +60,8 @@ pub fn number(refusal: Refusal) -> usize
         Refusal::TrackerEmpty => 5,
         Refusal::TrackerDamaged => 6,
         Refusal::PairOutOfRange => 7,
+        Refusal::PatternEmpty => 8,
+        Refusal::RecordTooLong => 9,
     }
 }
 
@@ -68,6 +77,8 @@ pub fn value(refusal: Refusal) -> usize
         Refusal::TrackerEmpty => 0,
         Refusal::TrackerDamaged => 0,
         Refusal::PairOutOfRange => 0,
+        Refusal::PatternEmpty => 0,
+        Refusal::RecordTooLong => 0,
     }
 }
 

@@ -15,7 +15,7 @@ use Rattle.abelian.specs.Periods.{Pair, pair, inRange, heads, row, pairs, isPer
 use Rattle.abelian.specs.EndedLengths.{boardOf}
 use Rattle.abelian.specs.Trackers.{boardSize, entries, entryAdded}
 use Rattle.abelian.proofs.Tests.{is-false, decided}
-use Rattle.abelian.proofs.Lists.{keep-append, keep-agree, upFrom-last}
+use Rattle.abelian.proofs.Lists.{keep-append, keep-agree, keep-shorter, upFrom-last}
 use Rattle.abelian.proofs.Pairs.{InRange, in-range, range-in, mem-row}
 use Rattle.periods.proofs.PairCount.{length-row}
 use Rattle.board.specs.Places.{placeOf, entryAt, isOpen}
@@ -210,18 +210,10 @@ pub record Gone (w old board : List ℕ) (trials p : ℕ) : Type 0 where
   pub counted : trials ≡ length (openUpTo (length w) old (p - 1))
   pub ended : board ≡ boardOf (upTo (entryAdded w) (p - 1) old)
 
-length-keep : (f : Pair → Bool) (xs : List Pair) → length (keep f xs) ≤ length xs
-length-keep f [] = omega arith
-length-keep f (x ∷ xs) = go (f x) (length-keep f xs)
-  where
-    go : (b : Bool) → length (keep f xs) ≤ length xs → length (put b x (keep f xs)) ≤ suc (length xs)
-    go true l = omega arith
-    go false l = omega arith
-
 -- a row has no more open pairs than heads
 pub few-in-row : (w board : List ℕ) (p : ℕ) → p ≤ length w → length w ≤ longest → length (rowOpen (length w) board p) ≤ longest
 unfolding rowOpen
-few-in-row w board p l u = omega (arith, length-keep (isOpen board) (row (length w) p), length-row (length w) p, heads-le (length w) p)
+few-in-row w board p l u = omega (arith, keep-shorter (isOpen board) (row (length w) p), length-row (length w) p, heads-le (length w) p)
 
 pub none-gone : (w old : List ℕ) → length old ≡ boardSize → Gone w old old 0 1
 none-gone w old long = record { from = omega arith; to = omega arith; few = omega arith; counted = refl; ended = none-upTo (entryAdded w) old long }

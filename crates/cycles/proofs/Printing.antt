@@ -7,12 +7,12 @@ use Prim.Native.Nat.{ℕ, _≤_}
 use native.Mathlib.Omega.{arith}
 use lib.ListN.{length, take}
 use Rattle.abelian.specs.Output.{fill}
-use Rattle.abelian.specs.Refusals.{numberOf, wordRefusal}
+use Rattle.abelian.specs.Refusals.{wordRefusal}
 use Rattle.abelian.specs.Answers.{Answer, answeredWrote, refusing, writing}
 use Rattle.abelian.specs.Calls.{reportWords, reporting}
 use Rattle.abelian.specs.declared.Refusal.{Refusal}
-use Rattle.abelian.specs.declared.Refusal.the-variants.{TooLong, NotALetter, SliceTooShort, TrackerFull, TrackerEmpty, TrackerDamaged, PairOutOfRange}
 use Rattle.abelian.specs.declared.Wrote.the-variants.{Words, Refused}
+use Rattle.abelian.proofs.Refusals.{refusal-number}
 use Rattle.words.proofs.Refusals.{accepted-length}
 use Rattle.words.proofs.Listings.{listing-refused, listing-written}
 use Rattle.report.proofs.Lengths.{report-places}
@@ -22,16 +22,6 @@ use Rattle.cycles.specs.Lines.{refusalLine, linesUnless, printed}
 use Rattle.report.specs.Places.{longestReport}
 use Rattle.cycles.specs.Reports.{textOf}
 use Rattle.cycles.proofs.Decoding.{text-accepted}
-
--- no refusal has the number of acceptance
-numbered : (r : Refusal) → numberOf r ≡ 0 → ⊥
-numbered TooLong e = omega arith
-numbered (NotALetter position) e = omega arith
-numbered (SliceTooShort needed) e = omega arith
-numbered TrackerFull e = omega arith
-numbered TrackerEmpty e = omega arith
-numbered TrackerDamaged e = omega arith
-numbered PairOutOfRange e = omega arith
 
 -- The first n places hold a report, and its text is what is printed for the word.
 pub record Reported (w after : List ℕ) (n : ℕ) : Type 0 where
@@ -70,7 +60,7 @@ module _ (w out after : List ℕ) (places : longestReport ≡ length out) where
   words-reported n e = go (wordRefusal w false 0 0) refl
     where
       go : (o : Option Refusal) → wordRefusal w false 0 0 ≡ o → Reported w after n
-      go (some r) refused = absurd (numbered r (sym (ap (λ (a : Answer). a .number) (e ∙ report-refused refused))))
+      go (some r) refused = absurd (omega (arith, refusal-number r, ap (λ (a : Answer). a .number) (e ∙ report-refused refused)))
       go none accepted =
           let ws : List ℕ = reportWords w in
           let few : length ws ≤ longestReport = report-short w accepted in
@@ -91,7 +81,7 @@ module _ (w out after : List ℕ) (places : longestReport ≡ length out) where
   refusal-reported r e = go (wordRefusal w false 0 0) refl
     where
       go : (o : Option Refusal) → wordRefusal w false 0 0 ≡ o → refusalLine r ≡ printed w
-      go none accepted = absurd (numbered r (ap (λ (a : Answer). a .number) (e ∙ report-written accepted)))
+      go none accepted = absurd (omega (arith, refusal-number r, ap (λ (a : Answer). a .number) (e ∙ report-written accepted)))
       go (some q) refused =
           let told : refusing r after ≡ refusing q out = e ∙ report-refused refused in
           ap₂ (λ (n v : ℕ). line (ascii "refused") (n ∷ v ∷ [])) (ap (λ (a : Answer). a .number) told) (ap (λ (a : Answer). a .value) told)

@@ -18,9 +18,9 @@ use Rattle.abelian.specs.Periods.{Pair, headOf, block, wholeBlocks, isPeriod}
 use Rattle.abelian.specs.Trials.{ruledOut, occurrence, distance, greatestGap, occurrenceBound, lowestTried, isCandidate}
 use Rattle.abelian.proofs.Tests.{is-true, is-false, passes, fails, decided, both}
 use Rattle.abelian.proofs.Lists.{mem-all, all-mem}
-use Rattle.abelian.proofs.Counts.{bounds-letter, count-part, count-take-rises, count-take-more, vector-counts, noneAbove-counts, contained-noneAbove}
+use Rattle.abelian.proofs.Counts.{isLetter-mem, bounds-letter, count-part, count-take-rises, count-take-more, vector-counts, noneAbove-counts, contained-noneAbove}
 use Rattle.abelian.proofs.Definition1.{Conditions, period-conditions}
-use Rattle.words.proofs.Vectors.{isLetter-mem, letter-at}
+use Rattle.words.proofs.Vectors.{letter-at}
 use Rattle.periods.proofs.OnceEnded.{count-take-le}
 use Rattle.periods.proofs.Kernel.{first-block}
 use Rattle.listers.proofs.Select.{occurrence-le, occurrence-length}

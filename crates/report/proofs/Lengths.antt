@@ -15,10 +15,9 @@ use Rattle.abelian.specs.Squares.{squareStarts, squareWords}
 use Rattle.abelian.specs.Trackers.{boardSize}
 use Rattle.abelian.specs.Calls.{fullWords, periodWords, reportWords}
 use Rattle.report.specs.Places.{longestReport}
-use Rattle.abelian.proofs.Lists.{all-mem, upFrom-mem}
+use Rattle.abelian.proofs.Lists.{all-mem, upFrom-mem, keep-shorter}
 use Rattle.board.proofs.Places.{board-length, keep-in-range}
 use Rattle.squares.specs.Marks.{startMarks, squareMarks}
-use Rattle.squares.proofs.Lists.{keep-shorter}
 use Rattle.squares.proofs.Candidates.{fewer-words, candidates-bound}
 
 -- lists that are each no longer are no longer together

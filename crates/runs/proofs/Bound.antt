@@ -13,10 +13,10 @@ use Rattle.abelian.specs.Lists.{one, upFrom, sum, keep, each}
 use Rattle.abelian.specs.Words.{longest}
 use Rattle.abelian.specs.Squares.{isSquare}
 use Rattle.abelian.specs.Runs.{goesBack, runWords}
-use Rattle.abelian.proofs.Lists.{length-upFrom, upFrom-append, keep-append}
+use Rattle.abelian.proofs.Lists.{length-upFrom, upFrom-append, keep-append, length-keep-more, keep-shorter}
 use Rattle.abelian.proofs.Tests.{is-true}
 use Rattle.words.proofs.Lists.{keep-rises}
-use Rattle.squares.proofs.Lists.{length-keep-more, keep-shorter, each-rest}
+use Rattle.squares.proofs.Lists.{each-rest}
 use Rattle.runs.specs.Rows.{startsRun, rowWords}
 use Rattle.runs.specs.Places.{rowBound, runsBound}
 use Rattle.runs.proofs.Rows.{all-starts, length-upTo, words-of-rows, long-no-words}

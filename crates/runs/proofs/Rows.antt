@@ -9,9 +9,9 @@ use lib.ListN.{length, length-map}
 use Rattle.abelian.specs.Lists.{upFrom, put, keep, each}
 use Rattle.abelian.specs.Squares.{isSquare, squareStarts}
 use Rattle.abelian.specs.Runs.{goesBack, runStarts, runAt, runs, wordsOfRun, runWords}
-use Rattle.abelian.proofs.Lists.{keep-keep, each-append, each-each, length-each}
+use Rattle.abelian.proofs.Lists.{keep-keep, each-append, each-each, length-each, keep-more}
 use Rattle.words.proofs.Lists.{keep-rises}
-use Rattle.squares.proofs.Lists.{keep-more, each-more, each-fits, each-rest}
+use Rattle.squares.proofs.Lists.{each-more, each-fits, each-rest}
 use Rattle.runs.specs.Rows.{startsRun, rowWords}
 
 module _ (w : List ℕ) (d : ℕ) where

@@ -15,11 +15,11 @@ use Rattle.abelian.specs.Lists.{one, upFrom, put, keep, each}
 use Rattle.abelian.specs.Words.{longest}
 use Rattle.abelian.specs.Output.{squareWord, fill}
 use Rattle.abelian.specs.Squares.{isSquare, squareStarts, squareWords}
-use Rattle.abelian.proofs.Lists.{length-upFrom, mem-upFrom, keep-agree}
+use Rattle.abelian.proofs.Lists.{length-upFrom, mem-upFrom, keep-agree, keep-more, length-keep-more, keep-shorter}
 use Rattle.words.proofs.Vectors.{map-upFrom-at}
 use Rattle.squares.specs.Marks.{startMarks, squareMarks, markedStarts}
 use Rattle.words.proofs.Lists.{keep-rises, fill-more}
-use Rattle.squares.proofs.Lists.{map-more, keep-more, length-keep-more, keep-shorter, each-split, each-more, each-fits, each-rest}
+use Rattle.squares.proofs.Lists.{map-more, each-split, each-more, each-fits, each-rest}
 
 -- ---- what marks mark
 

@@ -1,15 +1,12 @@
 -- General laws of lists that are made number by number.
 use mathlib.Core.Path.{_≡_, refl, sym, ap, _∙_}
-use mathlib.Core.Bool.{Bool, true, false}
 use mathlib.Core.List.{List, [], _∷_, _++_, map, append-nil}
 use Prim.Native.Nat.{ℕ, zero, suc, _+_, _-_, _≤_, _<_}
 use native.Mathlib.Nat.{add-zero}
 use native.Mathlib.Omega.{arith}
 use lib.ListN.{length, length-append}
-use Rattle.abelian.specs.Lists.{one, upFrom, put, keep, each}
-use Rattle.abelian.proofs.Lists.{upFrom-last, upFrom-append, keep-append, each-append}
-
--- ---- one number more
+use Rattle.abelian.specs.Lists.{upFrom, each}
+use Rattle.abelian.proofs.Lists.{upFrom-append, each-append}
 
 -- f of one number more stands behind the others
 pub map-more : {A : Type 0} (f : ℕ → A) (a n : ℕ) → map f (upFrom a (suc n)) ≡ map f (upFrom a n) ++ (f (a + n) ∷ [])
@@ -17,27 +14,6 @@ map-more f a zero = ap (λ (k : ℕ). f k ∷ []) (sym (add-zero a))
 map-more f a (suc n) =
     let e : suc a + n ≡ a + suc n = omega arith in
     ap (λ (l : List _). f a ∷ l) (rw e at (map-more f (suc a) n))
-
--- one number more is kept behind the others where it passes
-pub keep-more : (f : ℕ → Bool) (a n : ℕ) → keep f (upFrom a (suc n)) ≡ keep f (upFrom a n) ++ put (f (a + n)) (a + n) []
-keep-more f a n = ap (keep f) (upFrom-last a n) ∙ keep-append f (upFrom a n) ((a + n) ∷ [])
-
--- so one number more is one more kept, where it passes
-pub length-keep-more : (f : ℕ → Bool) (a n : ℕ) → length (keep f (upFrom a (suc n))) ≡ length (keep f (upFrom a n)) + one (f (a + n))
-length-keep-more f a n = ap length (keep-more f a n) ∙ length-append (keep f (upFrom a n)) (put (f (a + n)) (a + n) []) ∙ ap (λ (k : ℕ). length (keep f (upFrom a n)) + k) (go (f (a + n)))
-  where
-    go : (b : Bool) → length (put b (a + n) []) ≡ one b
-    go true = refl
-    go false = refl
-
--- no more are kept than there are
-pub keep-shorter : {A : Type 0} (f : A → Bool) (xs : List A) → length (keep f xs) ≤ length xs
-keep-shorter f [] = omega arith
-keep-shorter f (x ∷ xs) = go (f x) (keep-shorter f xs)
-  where
-    go : (b : Bool) → length (keep f xs) ≤ length xs → length (put b x (keep f xs)) ≤ suc (length xs)
-    go true h = omega arith
-    go false h = omega arith
 
 -- ---- the numbers up to n, each with a list of its own
 

@@ -11,22 +11,12 @@ use lib.Seq.{ext-getD, take-suc, take-all, getD-set-same, getD-set-other}
 use lib.Dec.{T, eqb}
 use borrow.Author.Tests.{eqb-true, eqb-false}
 use Rattle.abelian.specs.Lists.{one, upFrom}
-use Rattle.abelian.specs.Words.{alphabetSize, firstLetter, letters, isLetter, ofLetters, count, vector, noneAbove}
+use Rattle.abelian.specs.Words.{alphabetSize, firstLetter, letters, ofLetters, count, vector, noneAbove}
 use Rattle.abelian.proofs.Tests.{decided}
 use Rattle.abelian.proofs.Lists.{mem-upFrom, upFrom-mem, length-upFrom}
-use Rattle.abelian.proofs.Counts.{count-append, count-le-length, noneAbove-counts, counts-noneAbove, letter-bounds, bounds-letter, letters-inside}
+use Rattle.abelian.proofs.Counts.{count-append, count-le-length, noneAbove-counts, counts-noneAbove, letter-bounds, letters-inside}
 
 -- ---- letters and their places
-
--- a byte that passes the test of letters is among the letters
-pub isLetter-mem : (b : ℕ) → T (isLetter alphabetSize b) → List·Memᴰ b letters
-unfolding letters
-isLetter-mem b t = let h : (firstLetter ≤ b) × (b < firstLetter + alphabetSize) = letter-bounds alphabetSize b t in upFrom-mem firstLetter alphabetSize b (h .0) (h .1)
-
--- what is among the letters passes the test
-pub mem-isLetter : (b : ℕ) → List·Memᴰ b letters → T (isLetter alphabetSize b)
-unfolding letters
-mem-isLetter b m = let h : (firstLetter ≤ b) × (b < firstLetter + alphabetSize) = mem-upFrom firstLetter alphabetSize m in bounds-letter alphabetSize b (h .0) (h .1)
 
 -- the letter of each place is a letter
 pub place-letter : (j : ℕ) → j < alphabetSize → List·Memᴰ (firstLetter + j) letters

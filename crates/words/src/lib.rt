@@ -12,7 +12,7 @@ ghost use mathlib.Core.Bool.{false};
 ghost use Prim.Native.Nat.{_≤_};
 ghost use lib.Dec.{T};
 ghost use lib.ListN.{length};
-ghost use Rattle.abelian.specs.Words.{alphabetSize, longest, isLetter, ofLetters, vector};
+ghost use Rattle.abelian.specs.Words.{alphabetSize, longest, isLetter, firstOutside, ofLetters, vector};
 ghost use Rattle.abelian.specs.Refusals.{wordRefusal};
 ghost use Rattle.abelian.specs.Answers.{outcomeOf};
 ghost use Rattle.words.specs.Prefixes.{prefixCounts};
@@ -27,21 +27,45 @@ pub fn is_letter(byte: u8) -> bool
     FIRST_LETTER <= byte && (byte as usize) < (FIRST_LETTER as usize) + LETTERS
 }
 
+// Whether every byte is a letter. Every byte is looked at and the loop is not left, so that it becomes a few vector instructions: for long records, in the
+// crates above.
+pub fn all_letters(bytes: &[u8]) -> bool
+    ensures { λ r. ⌜ r ≡ ofLetters (now (bytes .entry)) ⌝ }
+{
+    let mut all = true;
+    let mut i = 0;
+    while i < bytes.len() {
+        all = all & is_letter(bytes[i]);
+        i += 1;
+    }
+    all
+}
+
+// The first position, counted from 1, that holds no letter, or 0 where there is none. The bytes may be a word or a record.
+pub fn first_outside(bytes: &[u8]) -> usize
+    ensures { λ r. ⌜ r ≡ firstOutside alphabetSize (now (bytes .entry)) ⌝ }
+{
+    let mut i = 0;
+    while i < bytes.len() {
+        if !is_letter(bytes[i]) {
+            return i + 1;
+        }
+        i += 1;
+    }
+    0
+}
+
 // Whether a call may take the word: not if it is above the longest, and not if it holds a byte that is no letter, of which the first
-// position is answered, counted from 1.
+// position is answered.
 pub fn check_word(word: &[u8]) -> Outcome
     ensures { λ r. ⌜ r ≡ outcomeOf (wordRefusal (now (word .entry)) false 0 0) ⌝ }
 {
     if word.len() > LONGEST {
         return Outcome::Refused(Refusal::TooLong);
     }
-    let mut i = 0;
-    while i < word.len() {
-        if !is_letter(word[i]) {
-            let position = i + 1;
-            return Outcome::Refused(Refusal::NotALetter(position));
-        }
-        i += 1;
+    let position = first_outside(word);
+    if position > 0 {
+        return Outcome::Refused(Refusal::NotALetter(position));
     }
     Outcome::Accepted
 }
