@@ -1,8 +1,8 @@
-// The counts on a word for C: one exported function for each list call, which answers how many words that call writes.
+// The counts on a word, and that on a pattern and a record, for C: one exported function for each list call, which answers how many words that call writes.
 use crate::numbers::LuffCounted;
 use crate::numbers::of_needed;
 ghost use mathlib.Core.Path.{_≡_};
-ghost use Rattle.abelian.specs.Calls.{periodCount, fullCount, squareCount, runCount, reportCount};
+ghost use Rattle.abelian.specs.Calls.{periodCount, fullCount, squareCount, runCount, windowCount, reportCount};
 ghost use Rattle.luffbutton.specs.Numbers.{countedNumbers};
 
 // Counts the words that the plain lister writes.
@@ -51,6 +51,14 @@ pub extern "C" fn luff_count_runs(word: &[u8]) -> LuffCounted
     ensures { λ r. ⌜ countedNumbers r ≡ runCount (now (word .entry)) ⌝ }
 {
     of_needed(runs::count_runs(word))
+}
+
+// Counts the windows of a record that have a pattern's vector.
+#[no_mangle]
+pub extern "C" fn luff_count_windows(pattern: &[u8], record: &[u8]) -> LuffCounted
+    ensures { λ r. ⌜ countedNumbers r ≡ windowCount (now (pattern .entry)) (now («record» .entry)) ⌝ }
+{
+    of_needed(windows::count_windows(pattern, record))
 }
 
 // Counts the words of the report of the word.

@@ -1,6 +1,6 @@
 // The calls for C, and for Rust by way of C: one exported function for each open call, over that call or, of a tracker's, over its form in place. A
 // function returns the answer's numbers as a struct (a fresh tracker has none), promises what the call promises, by the same definitions, and asks
-// nothing of the caller. Here are the calls on a word but the counts, which are in counts.rt; the tracker's are in fields.rt.
+// nothing of the caller. Here are the calls on a word and that on a pattern and a record, but the counts, which are in counts.rt; the tracker's are in fields.rt.
 mod counts;
 mod fields;
 mod numbers;
@@ -19,7 +19,7 @@ use numbers::of_verdict;
 use numbers::of_wrote;
 ghost use mathlib.Core.Path.{_≡_};
 ghost use Rattle.abelian.specs.Periods.{pair};
-ghost use Rattle.abelian.specs.Calls.{judging, plainListing, skippingListing, fullListing, scaledListing, squareListing, runListing, coverAnswer, reporting};
+ghost use Rattle.abelian.specs.Calls.{judging, plainListing, skippingListing, fullListing, scaledListing, squareListing, runListing, windowListing, coverAnswer, reporting};
 ghost use Rattle.luffbutton.specs.Numbers.{verdictNumbers, coverNumbers, listedNumbers, scaledNumbers, wroteNumbers};
 
 // Judges a pair.
@@ -76,6 +76,14 @@ pub extern "C" fn luff_list_runs(word: &[u8], out: &mut [u32]) -> LuffWrote
     ensures { λ r. ⌜ wroteNumbers r (now (out .exit)) ≡ runListing (now (word .entry)) (now (out .entry)) ⌝ }
 {
     of_wrote(runs::list_runs(word, out))
+}
+
+// Lists the windows of a record that have a pattern's vector.
+#[no_mangle]
+pub extern "C" fn luff_list_windows(pattern: &[u8], record: &[u8], out: &mut [u32]) -> LuffWrote
+    ensures { λ r. ⌜ wroteNumbers r (now (out .exit)) ≡ windowListing (now (pattern .entry)) (now («record» .entry)) (now (out .entry)) ⌝ }
+{
+    of_wrote(windows::list_windows(pattern, record, out))
 }
 
 // Searches for a cover of the word.

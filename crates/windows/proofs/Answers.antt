@@ -1,6 +1,6 @@
 -- Laws of the refusals and answers of a call on a pattern and a record. `check_both` finds the refusals but for the slice's, `windowRefusal pattern events 0 0`: a call that
--- goes by its answer reads from these what its own answer is.
-use mathlib.Core.Path.{_≡_, sym, ap, _∙_}
+-- goes by it reads from these what its own answer is.
+use mathlib.Core.Path.{_≡_, _∙_}
 use mathlib.Core.Bool.{Bool, true, false, not}
 use mathlib.Core.Option.{none, some}
 use mathlib.Core.List.{List, [], _∷_, _++_}
@@ -13,15 +13,12 @@ use Rattle.abelian.specs.Words.{alphabetSize, longest, firstOutside, ofLetters}
 use Rattle.abelian.specs.Output.{fill}
 use Rattle.abelian.specs.Windows.{longestRecord, windowWords}
 use Rattle.abelian.specs.Refusals.{Condition, condition, firstHolding, aboveLongest, byteOutside, tooFewPlaces, wordRefusal, windowRefusal}
-use Rattle.abelian.specs.Answers.{refusing, writing, counting, outcomeOf}
+use Rattle.abelian.specs.Answers.{refusing, writing, counting}
 use Rattle.abelian.specs.Calls.{windowListing, windowCount}
 use Rattle.abelian.specs.declared.Refusal.{Refusal}
 use Rattle.abelian.specs.declared.Refusal.the-variants.{NotALetter, SliceTooShort, PatternEmpty, RecordTooLong}
-use Rattle.abelian.specs.declared.Outcome.{Outcome}
-use Rattle.abelian.specs.declared.Outcome.the-variants.{Accepted, Refused}
 use Rattle.abelian.proofs.Tests.{passes}
 use Rattle.abelian.proofs.Refusals.{none-holds, holding-first, holding-behind}
-use Rattle.words.proofs.Refusals.{accepted-none, refused-some, accepted-length, accepted-letters}
 use Rattle.windows.specs.Sliding.{Readable}
 
 -- ---- the refusal of each pattern and record
@@ -87,7 +84,7 @@ module _ (pattern events : List ℕ) where
     for-slice needed places = holding-behind butForSlice (tooFewPlaces needed places ∷ []) accepted
 
     -- and may be taken
-    readable : Readable pattern events
+    pub readable : Readable pattern events
     unfolding windowRefusal firstHolding ofLetters
     readable =
         let long = none-holds (aboveLongest pattern) (byteOutside pattern ∷ ofBoth pattern events) accepted in
@@ -104,45 +101,33 @@ module _ (pattern events : List ℕ) where
           within = ltb-false longestRecord (length events) (above .0);
         }
 
--- ---- the answers, by what `check_both` has found
-
-module _ (pattern events : List ℕ) {o : Outcome} (checked : o ≡ outcomeOf (windowRefusal pattern events 0 0)) where
-  -- they are refused: so is the list, with the slice as it came, and so is the count
-  module _ {r : Refusal} (e : o ≡ Refused r) where
-    refused : windowRefusal pattern events 0 0 ≡ some r
-    refused = refused-some (windowRefusal pattern events 0 0) r (sym checked ∙ e)
-
-    pub list-refused : (out : List ℕ) → refusing r out ≡ windowListing pattern events out
-    unfolding windowListing
-    list-refused out = rw (refused-anyway pattern events refused (length (windowWords pattern events)) (length out))
-
-    pub count-refused : refusing r [] ≡ windowCount pattern events
-    unfolding windowCount
-    count-refused = rw refused
-
-  -- they are accepted
-  module _ (e : o ≡ Accepted) where
-    accepted : windowRefusal pattern events 0 0 ≡ none
-    accepted = accepted-none (windowRefusal pattern events 0 0) (sym checked ∙ e)
-
-    pub accepted-readable : Readable pattern events
-    accepted-readable = readable pattern events accepted
+    -- ---- the answers
 
     -- more words than places: the words needed, and the slice as it came
     pub list-short : (out : List ℕ) (needed : ℕ) → needed ≡ length (windowWords pattern events) → length out < needed → refusing (SliceTooShort needed) out ≡ windowListing pattern events out
     unfolding windowListing firstHolding
     list-short out needed n h =
         let l : length out < length (windowWords pattern events) = omega arith in
-        rw (for-slice pattern events accepted (length (windowWords pattern events)) (length out), lt-ltb (length out) (length (windowWords pattern events)) l, n)
+        rw (for-slice (length (windowWords pattern events)) (length out), lt-ltb (length out) (length (windowWords pattern events)) l, n)
 
     -- places enough: the words in the first places
     pub list-written : (out : List ℕ) (written : ℕ) → written ≡ length (windowWords pattern events) → length (windowWords pattern events) ≤ length out
         → writing written 0 0 0 (fill (windowWords pattern events) out) ≡ windowListing pattern events out
     unfolding windowListing firstHolding
     list-written out written n h =
-        rw (for-slice pattern events accepted (length (windowWords pattern events)) (length out), le-ltb (length out) (length (windowWords pattern events)) h, n)
+        rw (for-slice (length (windowWords pattern events)) (length out), le-ltb (length out) (length (windowWords pattern events)) h, n)
 
     -- the number of the list's words is the count's answer
     pub counted : (k : ℕ) → k ≡ length (windowWords pattern events) → counting k ≡ windowCount pattern events
     unfolding windowCount
     counted k n = rw (accepted, n)
+
+  -- what is refused by itself: so is the list, with the slice as it came, and so is the count
+  module _ {r : Refusal} (refused : windowRefusal pattern events 0 0 ≡ some r) where
+    pub list-refused : (out : List ℕ) → refusing r out ≡ windowListing pattern events out
+    unfolding windowListing
+    list-refused out = rw (refused-anyway refused (length (windowWords pattern events)) (length out))
+
+    pub count-refused : refusing r [] ≡ windowCount pattern events
+    unfolding windowCount
+    count-refused = rw refused

@@ -1,5 +1,5 @@
--- The laws of this crate: in how many counts two vectors differ, a window that slides, and what it has written.
-pub mod Differences
+-- The laws of this crate: by how much one vector's counts exceed another's, a window that slides, what it has written, and the answers of the calls.
+pub mod Excess
 pub mod Windows
 pub mod Places
 pub mod Answers

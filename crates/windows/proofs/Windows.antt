@@ -3,24 +3,29 @@ use mathlib.Core.Path.{_≡_, refl, sym, ap, _∙_}
 use mathlib.Core.Bool.{Bool, true, false}
 use mathlib.Core.Logic.{_≢_, ⊎-elim}
 use mathlib.Core.List.{List, [], _∷_, _++_, map, map-append}
-use Prim.Native.Nat.{ℕ, suc, _+_, _-_, _≤_, _<_}
+use Prim.Native.Nat.{ℕ, suc, _+_, _-_, _%_, _^_, _≤_, _<_}
 use native.Mathlib.Numerals.{add-one}
 use native.Mathlib.Omega.{arith}
-use lib.ListN.{length, take, drop, getD, set, length-set, length-map, length-drop}
+use lib.ListN.{length, take, drop, getD, set, length-set, length-map, length-take, length-drop}
 use lib.Seq.{drop-cons, getD-drop, getD-set-same, getD-set-other}
 use lib.Dec.{T, eqb}
 use borrow.Author.Tests.{eq-eqb, eqb-true, eqb-false}
 use Rattle.abelian.specs.Lists.{one, pick, upFrom, put, keep, same}
-use Rattle.abelian.specs.Words.{alphabetSize, firstLetter, ofLetters, count, vector, part}
+use Rattle.abelian.specs.Words.{alphabetSize, firstLetter, longest, ofLetters, count, vector, part}
 use Rattle.abelian.specs.Output.{windowWord}
 use Rattle.abelian.specs.Windows.{isWindow, windowStarts, windowWords}
 use Rattle.abelian.proofs.Tests.{decided}
 use Rattle.abelian.proofs.Lists.{keep-more, keep-shorter, length-upFrom}
-use Rattle.abelian.proofs.Counts.{letters-drop}
+use Rattle.abelian.proofs.Counts.{count-le-length, letters-drop}
 use Rattle.words.proofs.Vectors.{length-vector, vector-at, counts-are-vector, letter-at, vector-take-more}
-use Rattle.windows.specs.Differences.{differences}
+use Rattle.windows.specs.Excess.{excess, nonzero}
 use Rattle.windows.specs.Sliding.{firstWords}
-use Rattle.windows.proofs.Differences.{no-differences}
+use Rattle.windows.proofs.Excess.{one-more, one-less, excess-at, excess-set, no-excess}
+
+-- a count of a stretch that is no longer than a word is one of 8 bits
+pub count-small : (u : List ℕ) → length u ≤ longest → (j : ℕ) → j < alphabetSize → getD (vector u) j 0 < 2 ^ 8
+unfolding longest
+count-small u h j b = omega (arith, vector-at u j b, count-le-length (firstLetter + j) u)
 
 -- ---- the letter that joins and the letter that leaves
 
@@ -55,36 +60,68 @@ place-counted u x low high =
 
 module _ (w : List ℕ) (at rest : ℕ) {size : ℕ} (letters : T (ofLetters w)) (room : at + rest < length w) (less : rest + 1 ≡ size) where
   -- the letter behind the stretch joins it
-  pub vector-joined : {counts : List ℕ} → counts ≡ vector (part w at rest) → set counts (getD w (at + rest) 0 - firstLetter) (getD counts (getD w (at + rest) 0 - firstLetter) 0 + 1) ≡ vector (part w at size)
-  vector-joined e =
+  vector-joined : set (vector (part w at rest)) (getD w (at + rest) 0 - firstLetter) (getD (vector (part w at rest)) (getD w (at + rest) 0 - firstLetter) 0 + 1) ≡ vector (part w at size)
+  vector-joined =
       let d : getD (drop at w) rest 0 ≡ getD w (at + rest) 0 = getD-drop at w rest 0 in
-      rw (e, ← less) (rw d at (vector-take-more (drop at w) rest (letters-drop at w letters) (omega (arith, length-drop at w))))
+      rw (← less) (rw d at (vector-take-more (drop at w) rest (letters-drop at w letters) (omega (arith, length-drop at w))))
 
   -- a stretch that is one letter longer begins with the letter at its start
   part-first : part w at size ≡ getD w at 0 ∷ part w (at + 1) rest
   part-first = rw (← less, add-one rest, add-one at, drop-cons w at 0 (omega arith))
 
-  -- the letter at the start
+  -- the letters that join and leave have places
+  joins-place : getD w (at + rest) 0 - firstLetter < alphabetSize
+  joins-place = omega (arith, letter-at w (at + rest) letters room)
+
   first-letter : (firstLetter ≤ getD w at 0) × (getD w at 0 < firstLetter + alphabetSize)
   first-letter = letter-at w at letters (omega arith)
 
-  -- it leaves the stretch
-  pub vector-left : {counts : List ℕ} → counts ≡ vector (part w at size) → set counts (getD w at 0 - firstLetter) (getD counts (getD w at 0 - firstLetter) 0 - 1) ≡ vector (part w (at + 1) rest)
-  vector-left e = rw (e, part-first) (vector-less (part w (at + 1) rest) (getD w at 0) (first-letter .0) (first-letter .1))
+  -- the letter at the start leaves the stretch, in which it has been counted
+  vector-left : set (vector (part w at size)) (getD w at 0 - firstLetter) (getD (vector (part w at size)) (getD w at 0 - firstLetter) 0 - 1) ≡ vector (part w (at + 1) rest)
+  vector-left = rw part-first (vector-less (part w (at + 1) rest) (getD w at 0) (first-letter .0) (first-letter .1))
 
-  -- and has been counted
-  pub first-counted : {counts : List ℕ} → counts ≡ vector (part w at size) → 1 ≤ getD counts (getD w at 0 - firstLetter) 0
-  first-counted e = rw (e, part-first) (place-counted (part w (at + 1) rest) (getD w at 0) (first-letter .0) (first-letter .1))
+  first-counted : 1 ≤ getD (vector (part w at size)) (getD w at 0 - firstLetter) 0
+  first-counted = rw part-first (place-counted (part w (at + 1) rest) (getD w at 0) (first-letter .0) (first-letter .1))
+
+  module _ (pattern : List ℕ) (short : length pattern ≤ longest) where
+    -- the excess over the pattern's vector, once the letter behind the stretch has joined it
+    pub excess-joined : {entries : List ℕ} → entries ≡ excess (vector (part w at rest)) (vector pattern)
+        → set entries (getD w (at + rest) 0 - firstLetter) ((getD entries (getD w (at + rest) 0 - firstLetter) 0 + 1) % 2 ^ 8) ≡ excess (vector (part w at size)) (vector pattern)
+    excess-joined e =
+        let u : List ℕ = vector (part w at rest) in
+        let p : List ℕ = vector pattern in
+        let j : ℕ = getD w (at + rest) 0 - firstLetter in
+        let l : j < length u = omega (arith, joins-place, length-vector (part w at rest)) in
+        let m : j < length p = omega (arith, joins-place, length-vector pattern) in
+        rw (e, excess-at u p j l m, one-more (getD u j 0) (getD p j 0) (omega (arith, count-small pattern short j joins-place)), excess-set u p j (getD u j 0 + 1) l m)
+        (ap (λ (x : List ℕ). excess x p) vector-joined)
+
+    -- and once the first letter has left it
+    pub excess-left : {entries : List ℕ} → entries ≡ excess (vector (part w at size)) (vector pattern)
+        → set entries (getD w at 0 - firstLetter) ((getD entries (getD w at 0 - firstLetter) 0 + 255) % 2 ^ 8) ≡ excess (vector (part w (at + 1) rest)) (vector pattern)
+    excess-left e =
+        let u : List ℕ = vector (part w at size) in
+        let p : List ℕ = vector pattern in
+        let j : ℕ = getD w at 0 - firstLetter in
+        let b : j < alphabetSize = omega (arith, first-letter) in
+        let l : j < length u = omega (arith, length-vector (part w at size)) in
+        let m : j < length p = omega (arith, length-vector pattern) in
+        rw (e, excess-at u p j l m, one-less (getD u j 0) (getD p j 0) (omega (arith, count-small pattern short j b)) first-counted, excess-set u p j (getD u j 0 - 1) l m)
+        (ap (λ (x : List ℕ). excess x p) vector-left)
 
 -- ---- the windows passed
 
 module _ (pattern events : List ℕ) where
-  -- the window is one of the pattern's exactly where no counts differ
-  pub looked-at : (at : ℕ) → eqb (differences (vector (part events at (length pattern))) (vector pattern)) 0 ≡ isWindow pattern events (at + 1)
+  -- the window is one of the pattern's exactly where no count exceeds the pattern's or falls short of it
+  pub looked-at : length pattern ≤ longest → (at : ℕ) → eqb (nonzero (excess (vector (part events at (length pattern))) (vector pattern))) 0 ≡ isWindow pattern events (at + 1)
   unfolding isWindow
-  looked-at at =
+  looked-at short at =
+      let window : List ℕ = part events at (length pattern) in
       let e : at + 1 - 1 ≡ at = omega arith in
-      rw e (no-differences (vector (part events at (length pattern))) (vector pattern) (omega (arith, length-vector (part events at (length pattern)), length-vector pattern)))
+      rw e
+      (no-excess (vector window) (vector pattern) (length-vector window ∙ sym (length-vector pattern))
+      (λ j l. count-small window (omega (arith, length-take (length pattern) (drop at events))) j (omega (arith, l, length-vector window)))
+      (λ j l. count-small pattern short j (omega (arith, l, length-vector pattern))))
 
   -- one window more: its word stands behind the others where it is one of the pattern's
   pub words-more : (k : ℕ) → firstWords pattern events (k + 1) ≡ firstWords pattern events k ++ pick (isWindow pattern events (k + 1)) (windowWord (k + 1) ∷ []) []

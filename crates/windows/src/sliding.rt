@@ -1,61 +1,74 @@
-// The window that slides over a record. Its letters are counted once, and then one letter joins and one leaves at each step; a running number says in how many
-// counts the window and the pattern differ, and where it is 0 the window is one of the pattern's.
+// The window that slides over a record. Its letters are counted once, and then one letter joins and one leaves at each step. For each letter there is an entry: its count
+// in the window less that in the pattern, modulo 2^8. A running number says how many entries are not 0, so in how many counts window and pattern differ, and where
+// it is 0 the window is one of the pattern's.
 use abelian::FIRST_LETTER;
 use abelian::LETTERS;
+use std::num::wrapping_add_u8;
+use std::num::wrapping_sub_u8;
 use words::count_letters;
 ghost use mathlib.Core.Path.{_≡_};
-ghost use mathlib.Core.Bool.{not};
-ghost use Prim.Native.Nat.{_+_, _<_, _≤_};
+ghost use Prim.Native.Nat.{ℕ, _+_, _%_, _^_, _<_, _≤_};
 ghost use lib.Dec.{eqb};
-ghost use lib.ListN.{length, set};
+ghost use lib.ListN.{length, getD, set};
 ghost use Rattle.abelian.specs.Lists.{one};
 ghost use Rattle.abelian.specs.Words.{alphabetSize};
-ghost use Rattle.abelian.specs.Output.{windowWord};
 ghost use Rattle.abelian.specs.Windows.{longestRecord, windowWords};
-ghost use Rattle.windows.specs.Differences.{differences};
+ghost use Rattle.windows.specs.Excess.{excess, nonzero};
 ghost use Rattle.windows.specs.Sliding.{Readable, fillPlaces, noted};
 
 // The kind of a window, above its start.
 const WINDOW: u32 = 7 * 268435456;
 
-// 1 where two counts differ, and 0 where they do not.
-fn differ(a: u8, b: u8) -> usize
-    ensures { λ r. ⌜ r ≡ one (not (eqb a b)) ⌝ }
+// What is added to an entry, modulo 2^8, where its letter joins the window or leaves it.
+const JOINS: u8 = 1;
+
+const LEAVES: u8 = 255;
+
+// 1 where an entry is 0, and 0 where it is not.
+fn is_zero(entry: u8) -> usize
+    ensures { λ r. ⌜ r ≡ one (eqb entry 0) ⌝ }
 {
-    if a == b { 0 } else { 1 }
+    if entry == 0 { 1 } else { 0 }
 }
 
-// In how many counts the two vectors differ.
-fn count_differences(u: [u8; LETTERS], v: [u8; LETTERS]) -> usize
-    ensures { λ r. ⌜ r ≡ differences u v ⌝ }
+// The first vector's counts, each less the second's, modulo 2^8. Counts of 8 bits are equal exactly where this is 0.
+fn subtract(counts: [u8; LETTERS], wanted: [u8; LETTERS]) -> [u8; LETTERS]
+    requires { ⌜ ((j : ℕ) → j < alphabetSize → getD wanted j 0 < 2 ^ 8) ⌝ }
+    ensures { λ r. ⌜ r ≡ excess counts wanted ⌝ }
+{
+    let mut entries = counts;
+    let mut j = 0;
+    while j < LETTERS {
+        entries[j] = wrapping_sub_u8(counts[j], wanted[j]);
+        j += 1;
+    }
+    entries
+}
+
+// How many entries are not 0.
+fn count_nonzero(entries: [u8; LETTERS]) -> usize
+    ensures { λ r. ⌜ r ≡ nonzero entries ⌝ }
 {
     let mut found = 0;
     let mut j = 0;
     while j < LETTERS {
-        found += differ(u[j], v[j]);
+        found += 1 - is_zero(entries[j]);
         j += 1;
     }
     found
 }
 
-// Changes one count of a vector, and returns in how many counts it differs from the wanted one then, by how many it did before.
-fn change(
-    counts: &mut [u8; LETTERS],
-    wanted: &[u8; LETTERS],
-    differing: usize,
-    place: usize,
-    count: u8,
-) -> usize
-    requires { ⌜ (length (now counts) ≡ alphabetSize) × (length (now wanted) ≡ alphabetSize) ⌝ }
-    requires { ⌜ differing ≡ differences (now counts) (now wanted) ⌝ }
-    requires { ⌜ place < alphabetSize ⌝ }
-    ensures { λ r. ⌜ r ≡ differences (now (counts .exit)) (now (wanted .entry)) ⌝ }
-    ensures { λ _. ⌜ now (counts .exit) ≡ set (now (counts .entry)) place count ⌝ }
+// Adds to one entry, modulo 2^8, and returns how many entries are not 0 then, by how many were not before.
+fn change(entries: &mut [u8; LETTERS], differing: usize, place: usize, by: u8) -> usize
+    requires { ⌜ (length (now entries) ≡ alphabetSize) × (place < alphabetSize) ⌝ }
+    requires { ⌜ differing ≡ nonzero (now entries) ⌝ }
+    ensures { λ r. ⌜ r ≡ nonzero (now (entries .exit)) ⌝ }
+    ensures { λ _. ⌜ now (entries .exit) ≡ set (now (entries .entry)) place ((getD (now (entries .entry)) place 0 + by) % 2 ^ 8) ⌝ }
 {
-    let before = counts[place];
-    let target = wanted[place];
-    counts[place] = count;
-    differing + differ(count, target) - differ(before, target)
+    let before = entries[place];
+    let after = wrapping_add_u8(before, by);
+    entries[place] = after;
+    differing + is_zero(before) - is_zero(after)
 }
 
 // Writes the word of a start to a place of the slice, where the start is a window's and the slice has the place, and returns the next place.
@@ -75,7 +88,7 @@ fn note(out: &mut [u32], place: usize, fits: bool, start: usize) -> usize
 }
 
 // Slides a window over the record, writes the words of the starts that are the pattern's, as many as there are places for, to the first places of the slice, and
-// returns how many there are in all. Between two steps the counts are those of the window but for its last letter.
+// returns how many there are in all. Between two steps the entries are those of the window but for its last letter.
 pub(crate) fn slide(pattern: &[u8], record: &[u8], out: &mut [u32]) -> usize
     requires { ⌜ Readable (now pattern) (now «record») ⌝ }
     ensures { λ r. ⌜ r ≡ length (windowWords (now (pattern .entry)) (now («record» .entry))) ⌝ }
@@ -86,18 +99,17 @@ pub(crate) fn slide(pattern: &[u8], record: &[u8], out: &mut [u32]) -> usize
         return 0;
     }
     let wanted = count_letters(pattern);
-    let mut counts = count_letters(&record[..rest]);
-    let mut differing = count_differences(counts, wanted);
+    let first = count_letters(&record[..rest]);
+    let mut entries = subtract(first, wanted);
+    let mut differing = count_nonzero(entries);
     let mut found = 0;
     let mut at = 0;
     while at + rest < record.len() {
-        let joins = (record[at + rest] - FIRST_LETTER) as usize;
-        let more = counts[joins] + 1;
-        differing = change(&mut counts, &wanted, differing, joins, more);
+        let joins = (record[at + rest] as usize) - (FIRST_LETTER as usize);
+        differing = change(&mut entries, differing, joins, JOINS);
         found = note(out, found, differing == 0, at + 1);
-        let leaves = (record[at] - FIRST_LETTER) as usize;
-        let fewer = counts[leaves] - 1;
-        differing = change(&mut counts, &wanted, differing, leaves, fewer);
+        let leaves = (record[at] as usize) - (FIRST_LETTER as usize);
+        differing = change(&mut entries, differing, leaves, LEAVES);
         at += 1;
     }
     found

@@ -1,11 +1,14 @@
 -- `windows::check_both` meets its contract: each of its five answers is the definition's. Assumes nothing.
 use mathlib.Core.Path.{_≡_, sym, ap, _∙_}
 use mathlib.Core.Bool.{false}
+use mathlib.Core.Logic.{_≢_}
 use mathlib.Core.Option.{none}
 use mathlib.Core.List.{List}
 use Prim.Native.Nat.{ℕ}
 use native.Mathlib.Omega.{arith}
+use borrow.Author.Tests.{eqb-true, eqb-false}
 use borrow.Author.Needs.{needs}
+use Rattle.abelian.specs.Words.{alphabetSize, firstOutside, ofLetters}
 use Rattle.abelian.specs.Windows.{longestRecord}
 use Rattle.abelian.specs.Refusals.{wordRefusal}
 use Rattle.abelian.specs.Answers.{outcomeOf}
@@ -55,28 +58,33 @@ returns-3 c =
     let told = c .before .before in
     ap outcomeOf (sym (record-refused (pattern told) (events told) (word told) (omega (arith, c .before .if1 .left)) (c .if2 .taken)))
 
+all-letters-requires : tie.Need-all-letters-requires
+all-letters-requires c κs = search needs
+
+returns-4 : tie.Need-returns-4
+unfolding longestRecord ofLetters
+returns-4 c =
+    let short = c .before .before in
+    let told = short .before .before in
+    ap outcomeOf
+    (sym
+    (both-accepted (pattern told) (events told) (word told) (omega (arith, short .before .if1 .left)) (short .if2 .left)
+    (eqb-true (firstOutside alphabetSize (events told)) 0 (sym (c .before .all-letters .ensures) ∙ c .if3 .taken))))
+
 first-outside-requires : tie.Need-first-outside-requires
 first-outside-requires c κs = search needs
 
-returns-4 : tie.Need-returns-4
-unfolding longestRecord
-returns-4 c =
-    let call = c .before .first-outside in
-    let told = c .before .before .before .before in
-    ap outcomeOf
-    (sym
-    (outside-refused (pattern told) (events told) (word told) (omega (arith, c .before .before .before .if1 .left)) (c .before .before .if2 .left) (call .result) (sym (call .ensures))
-    (c .if3 .taken)))
-
 returns-5 : tie.Need-returns-5
-unfolding longestRecord
+unfolding longestRecord ofLetters
 returns-5 c =
-    let call = c .before .first-outside in
-    let told = c .before .before .before .before in
+    let call = c .first-outside in
+    let short = c .before .before .before in
+    let told = short .before .before in
+    let some : firstOutside alphabetSize (events told) ≢ 0 = eqb-false (firstOutside alphabetSize (events told)) 0 (sym (c .before .before .all-letters .ensures) ∙ c .before .if3 .left) in
     ap outcomeOf
     (sym
-    (both-accepted (pattern told) (events told) (word told) (omega (arith, c .before .before .before .if1 .left)) (c .before .before .if2 .left)
-    (omega (arith, call .ensures, c .if3 .left))))
+    (outside-refused (pattern told) (events told) (word told) (omega (arith, short .before .if1 .left)) (short .if2 .left) (call .result) (sym (call .ensures))
+    (omega (arith, call .ensures))))
 
 pub check-both-spec : {M : Type 1} → statement M
 check-both-spec =
@@ -88,6 +96,7 @@ check-both-spec =
     enum-told
     returns-2
     returns-3
-    first-outside-requires
+    all-letters-requires
     returns-4
+    first-outside-requires
     returns-5)

@@ -1,44 +1,43 @@
--- `windows::sliding::slide` meets its contract. The invariant of its loop: the counts are those of the window but for its last letter, and the words of the windows passed are
+-- `windows::sliding::slide` meets its contract. The invariant of its loop: the entries are those of the window but for its last letter, and the words of the windows passed are
 -- written. The measure is what is left of the record. Assumes nothing.
 use mathlib.Core.Path.{_≡_, refl, ap, ap₂, _∙_}
 use mathlib.Core.List.{List, []}
-use Prim.Native.Nat.{ℕ, _+_, _-_, _≤_, _<_}
+use Prim.Native.Nat.{ℕ, _+_, _-_, _%_, _^_, _≤_, _<_}
 use native.Mathlib.Omega.{arith}
-use lib.ListN.{length, take, drop, getD, set, length-take}
+use lib.ListN.{length, take, getD, set, length-take}
 use lib.Dec.{eqb}
 use borrow.Author.Needs.{needs}
-use Rattle.abelian.specs.Words.{alphabetSize, firstLetter, longest, vector, part}
+use Rattle.abelian.specs.Words.{alphabetSize, firstLetter, vector, part}
 use Rattle.abelian.specs.Windows.{longestRecord, isWindow, windowWords}
 use Rattle.abelian.proofs.Counts.{letters-take}
-use Rattle.words.proofs.Vectors.{length-vector, letter-at, entry-le}
-use Rattle.windows.specs.Differences.{differences}
+use Rattle.words.proofs.Vectors.{length-vector, letter-at}
+use Rattle.windows.specs.Excess.{excess, nonzero}
 use Rattle.windows.specs.Sliding.{Readable, firstWords, fillPlaces}
-use Rattle.windows.proofs.Windows.{vector-joined, vector-left, first-counted, looked-at, few-words, all-words, no-words}
+use Rattle.windows.proofs.Excess.{length-excess}
+use Rattle.windows.proofs.Windows.{count-small, excess-joined, excess-left, looked-at, few-words, all-words, no-words}
 use Rattle.windows.proofs.Places.{length-fillPlaces, fillPlaces-none, passed-more}
 use Rattle.windows.proofs.sliding.slide.Statement.{statement}
 use Rattle.windows.proofs.sliding.slide.Tie as tie
 
--- the windows up to the one at `at` have been passed; `rest` is the pattern's length less 1, and the slice was `before`
-record Passed (pattern events before : List ℕ) (rest : ℕ) (wanted out counts : List ℕ) (differing found at : ℕ) : Type 0 where
+-- the windows before `at` have been passed; `rest` is the pattern's length less 1, and the slice was `before`
+record Passed (pattern events before : List ℕ) (rest : ℕ) (out entries : List ℕ) (differing found at : ℕ) : Type 0 where
   less : rest + 1 ≡ length pattern
-  wants : wanted ≡ vector pattern
   within : at + rest ≤ length events
-  counted : counts ≡ vector (part events at rest)
-  differ : differing ≡ differences counts wanted
+  counted : entries ≡ excess (vector (part events at rest)) (vector pattern)
+  differ : differing ≡ nonzero entries
   reached : found ≡ length (firstWords pattern events at)
   written : out ≡ fillPlaces (firstWords pattern events at) before
 
 abbrev Inv-loop : tie.InvT-loop
-Inv-loop pattern «record» out₀ rest wanted counts₀ differing₀ found₀ at₀ out counts differing found at =
-    Passed pattern «record» out₀ rest wanted out counts differing found at
+Inv-loop pattern «record» out₀ rest entries₀ differing₀ found₀ at₀ out entries differing found at = Passed pattern «record» out₀ rest out entries differing found at
 
 abbrev μ-loop : tie.MeasureT-loop
-μ-loop pattern «record» out₀ rest wanted counts₀ differing₀ found₀ at₀ out counts differing found at = length «record» - at
+μ-loop pattern «record» out₀ rest entries₀ differing₀ found₀ at₀ out entries differing found at = length «record» - at
 
 -- the record, the pattern and the window inside the loop
 module _ (c : tie.In-loop Inv-loop μ-loop) where
   abbrev start : tie.Start Inv-loop μ-loop
-  start = c .before .before .before .before .before .before .before .before .before .before
+  start = c .before .before .before .before .before .before .before .before .before .before .before
 
   abbrev pattern : List ℕ
   pattern = start .args .pattern .now
@@ -52,39 +51,29 @@ module _ (c : tie.In-loop Inv-loop μ-loop) where
   abbrev at : ℕ
   at = c .before .loop .at
 
-  abbrev counts : List ℕ
-  counts = c .before .loop .counts
+  abbrev entries : List ℕ
+  entries = c .before .loop .entries
 
   abbrev readable : Readable pattern events
   readable = start .pre
 
-  abbrev wanted : List ℕ
-  wanted = c .before .before .before .before .before .count-letters .result
-
-  abbrev inv : Passed pattern events (start .args .out .now) rest wanted (c .before .loop .out) counts (c .before .loop .differing) (c .before .loop .found) at
+  abbrev inv : Passed pattern events (start .args .out .now) rest (c .before .loop .out) entries (c .before .loop .differing) (c .before .loop .found) at
   inv = c .before .loop .inv
 
-  -- the places of the letter that joins and of the letter that leaves
-  abbrev joins : ℕ
-  joins = getD events (at + rest) 0 - firstLetter
+  -- there is an entry for each letter, whatever stretch was counted
+  size : (u : List ℕ) {l : List ℕ} → l ≡ excess (vector u) (vector pattern) → length l ≡ alphabetSize
+  size u e = ap length e ∙ length-excess (vector u) (vector pattern) (omega (arith, length-vector u, length-vector pattern)) ∙ length-vector u
 
-  abbrev leaves : ℕ
-  leaves = getD events at 0 - firstLetter
+  -- a letter is there to join
+  room : at + rest < length events
+  room = omega (arith, c .loop-test .taken)
 
+  -- the letter that joins and the letter that leaves have places
   joins-letter : (firstLetter ≤ getD events (at + rest) 0) × (getD events (at + rest) 0 < firstLetter + alphabetSize)
-  joins-letter = letter-at events (at + rest) (readable .letters) (c .loop-test .taken)
+  joins-letter = letter-at events (at + rest) (readable .letters) room
 
   leaves-letter : (firstLetter ≤ getD events at 0) × (getD events at 0 < firstLetter + alphabetSize)
-  leaves-letter = letter-at events at (readable .letters) (omega (arith, c .loop-test .taken))
-
-  -- the window's vector, once the letter that joins is counted
-  joined : set counts joins (getD counts joins 0 + 1) ≡ vector (part events at (length pattern))
-  joined = vector-joined events at rest (readable .letters) (c .loop-test .taken) (inv .less) (inv .counted)
-
--- the counts behind the first change are the window's
-window : (c : tie.After-change Inv-loop μ-loop) → c .change .last .0 ≡ vector (part (events (c .before .before .before .before)) (at (c .before .before .before .before)) (length (pattern (c .before .before .before .before))))
-unfolding firstLetter
-window c = c .change .ensures .1 ∙ joined (c .before .before .before .before)
+  leaves-letter = letter-at events at (readable .letters) (omega (arith, room))
 
 sub-rest : tie.Need-sub-rest Inv-loop μ-loop
 sub-rest c = search needs
@@ -109,20 +98,24 @@ count-letters-requires-2 c κs =
     let rest = length (start .args .pattern .now) - 1 in
     (letters-take rest (start .args .«record» .now) (start .pre .letters), omega (arith, length-take rest (start .args .«record» .now), start .pre .short))
 
-count-differences-requires : tie.Need-count-differences-requires Inv-loop μ-loop
-count-differences-requires c κs = search needs
+subtract-requires : tie.Need-subtract-requires Inv-loop μ-loop
+subtract-requires c κs =
+    let counted = c .before .before .count-letters .ensures in
+    let start = c .before .before .before .before .before .before .before in
+    rw counted (count-small (start .args .pattern .now) (start .pre .short))
+
+count-nonzero-requires : tie.Need-count-nonzero-requires Inv-loop μ-loop
+count-nonzero-requires c κs = search needs
 
 loop-holds : tie.Need-loop-holds Inv-loop μ-loop
 unfolding firstWords
 loop-holds c =
-    let start = c .before .before .before .before .before .before .before .before in
-    let rest = length (start .args .pattern .now) - 1 in
+    let start = c .before .before .before .before .before .before .before .before .before in
     record {
       less = omega (arith, start .pre .some);
-      wants = c .before .before .before .count-letters .ensures;
-      within = omega (arith, c .before .before .before .before .if1 .left);
-      counted = c .before .count-letters2 .ensures;
-      differ = c .count-differences .ensures;
+      within = omega (arith, c .before .before .before .before .before .if1 .left);
+      counted = c .before .subtract .ensures ∙ ap₂ excess (c .before .before .count-letters2 .ensures) (c .before .before .before .before .count-letters .ensures);
+      differ = c .count-nonzero .ensures;
       reached = refl;
       written = fillPlaces-none (start .args .out .now);
     }
@@ -136,70 +129,60 @@ add-joins c = search needs
 shared-slice-read-joins : tie.Need-shared-slice-read-joins Inv-loop μ-loop
 shared-slice-read-joins c = search needs
 
-sub-joins : tie.Need-sub-joins Inv-loop μ-loop
-unfolding firstLetter
-sub-joins c = joins-letter (c .before) .0
-
 cast-joins : tie.Need-cast-joins Inv-loop μ-loop
 unfolding firstLetter alphabetSize
 cast-joins c = omega (arith, joins-letter (c .before))
 
-array-read-more : tie.Need-array-read-more Inv-loop μ-loop
-unfolding firstLetter alphabetSize
-array-read-more c = omega (arith, joins-letter (c .before))
+cast-joins-2 : tie.Need-cast-joins-2 Inv-loop μ-loop
+cast-joins-2 c = search needs
 
-add-more : tie.Need-add-more Inv-loop μ-loop
-unfolding firstLetter alphabetSize longest
-add-more c =
-    let l = c .before in
-    rw (inv l .counted) (omega (arith, entry-le (drop (at l) (events l)) (rest l) (joins l) (omega (arith, joins-letter l)), readable l .short))
+sub-joins : tie.Need-sub-joins Inv-loop μ-loop
+unfolding firstLetter
+sub-joins c = joins-letter (c .before) .0
 
 change-requires : tie.Need-change-requires Inv-loop μ-loop
 unfolding firstLetter
 change-requires c κs =
-    let l = c .before .before .before in (
-      (ap length (inv l .counted) ∙ length-vector (part (events l) (at l) (rest l)), ap length (inv l .wants) ∙ length-vector (pattern l)),
-      (inv l .differ, omega (arith, joins-letter l)),
-    )
+    let l = c .before .before in
+    ((size l (part (events l) (at l) (rest l)) (inv l .counted), omega (arith, joins-letter l)), inv l .differ)
+
+-- the entries behind the first change are the window's
+window : (c : tie.After-change Inv-loop μ-loop)
+    → c .change .last .0 ≡ excess (vector (part (events (c .before .before .before)) (at (c .before .before .before)) (length (pattern (c .before .before .before))))) (vector (pattern (c .before .before .before)))
+unfolding firstLetter
+window c =
+    let l = c .before .before .before in
+    c .change .ensures .1 ∙ excess-joined (events l) (at l) (rest l) (readable l .letters) (room l) (inv l .less) (pattern l) (readable l .short) (inv l .counted)
 
 add-note : tie.Need-add-note Inv-loop μ-loop
 add-note c = search needs
 
 note-requires : tie.Need-note-requires Inv-loop μ-loop
 note-requires c κs =
-    let l = c .before .before .before .before .before in
+    let l = c .before .before .before .before in
     let few = few-words (pattern l) (events l) (at l) in
-    (omega (arith, inv l .reached, few, l .loop-test .taken, readable l .within), omega (arith, l .loop-test .taken, readable l .within))
+    (omega (arith, inv l .reached, few, room l, readable l .within), omega (arith, room l, readable l .within))
 
 shared-slice-read-leaves : tie.Need-shared-slice-read-leaves Inv-loop μ-loop
 shared-slice-read-leaves c = search needs
 
-sub-leaves : tie.Need-sub-leaves Inv-loop μ-loop
-unfolding firstLetter
-sub-leaves c = leaves-letter (c .before .before .before .before .before .before .before .before .before) .0
-
 cast-leaves : tie.Need-cast-leaves Inv-loop μ-loop
 unfolding firstLetter alphabetSize
-cast-leaves c = omega (arith, leaves-letter (c .before .before .before .before .before .before .before .before .before))
+cast-leaves c = omega (arith, leaves-letter (c .before .before .before .before .before .before .before .before))
 
-array-read-fewer : tie.Need-array-read-fewer Inv-loop μ-loop
-unfolding firstLetter alphabetSize
-array-read-fewer c = omega (arith, leaves-letter (c .before .before .before .before .before .before .before .before .before))
+cast-leaves-2 : tie.Need-cast-leaves-2 Inv-loop μ-loop
+cast-leaves-2 c = search needs
 
-sub-fewer : tie.Need-sub-fewer Inv-loop μ-loop
+sub-leaves : tie.Need-sub-leaves Inv-loop μ-loop
 unfolding firstLetter
-sub-fewer c =
-    let l = c .before .before .before .before .before .before .before .before .before in
-    first-counted (events l) (at l) (rest l) (readable l .letters) (l .loop-test .taken) (inv l .less) (window (c .before .before .before .before .before))
+sub-leaves c = leaves-letter (c .before .before .before .before .before .before .before .before) .0
 
 change-requires-2 : tie.Need-change-requires-2 Inv-loop μ-loop
 unfolding firstLetter
 change-requires-2 c κs =
-    let call = c .before .before .before .before .before .before .before in
-    let l = call .before .before .before .before in (
-      (ap length (window call) ∙ length-vector (part (events l) (at l) (length (pattern l))), ap length (inv l .wants) ∙ length-vector (pattern l)),
-      (call .change .ensures .0, omega (arith, leaves-letter l)),
-    )
+    let call = c .before .before .before .before .before .before in
+    let l = call .before .before .before in
+    ((size l (part (events l) (at l) (length (pattern l))) (window call), omega (arith, leaves-letter l)), call .change .ensures .0)
 
 add-at : tie.Need-add-at Inv-loop μ-loop
 add-at c = search needs
@@ -210,18 +193,17 @@ loop-less c = search needs
 loop-again : tie.Need-loop-again Inv-loop μ-loop
 unfolding firstLetter
 loop-again c =
-    let note = c .before .before .before .before .before .before .note in
-    let call = c .before .before .before .before .before .before .before .before in
-    let l = call .before .before .before .before in
+    let note = c .before .before .before .before .before .note in
+    let call = c .before .before .before .before .before .before .before in
+    let l = call .before .before .before in
     let fits : eqb (call .change .result) 0 ≡ isWindow (pattern l) (events l) (at l + 1) =
-    ap (λ (k : ℕ). eqb k 0) (call .change .ensures .0) ∙ ap₂ (λ (u v : List ℕ). eqb (differences u v) 0) (window call) (inv l .wants) ∙ looked-at (pattern l) (events l) (at l) in
+    ap (λ (k : ℕ). eqb k 0) (call .change .ensures .0 ∙ ap nonzero (window call)) ∙ looked-at (pattern l) (events l) (readable l .short) (at l) in
     let passed : (note .result ≡ length (firstWords (pattern l) (events l) (at l + 1))) × (note .last .0 ≡ fillPlaces (firstWords (pattern l) (events l) (at l + 1)) (start l .args .out .now)) =
     passed-more (pattern l) (events l) (start l .args .out .now) (at l) (inv l .reached) (inv l .written) fits (note .ensures .0) (note .ensures .1) in
     record {
       less = inv l .less;
-      wants = inv l .wants;
-      within = omega (arith, l .loop-test .taken);
-      counted = c .change2 .ensures .1 ∙ vector-left (events l) (at l) (rest l) (readable l .letters) (l .loop-test .taken) (inv l .less) (window call);
+      within = omega (arith, room l);
+      counted = c .change2 .ensures .1 ∙ excess-left (events l) (at l) (rest l) (readable l .letters) (room l) (inv l .less) (pattern l) (readable l .short) (window call);
       differ = c .change2 .ensures .0;
       reached = passed .0;
       written = passed .1;
@@ -233,7 +215,7 @@ same-length c = ap length (c .before .loop .inv .written) ∙ length-fillPlaces 
 returns-2 : tie.Need-returns-2 Inv-loop μ-loop
 returns-2 c =
     let at-loop = c .before in
-    let start = at-loop .before .before .before .before .before .before .before .before .before in
+    let start = at-loop .before .before .before .before .before .before .before .before .before .before in
     let h = at-loop .loop .inv in
     let all : firstWords (start .args .pattern .now) (start .args .«record» .now) (at-loop .loop .at) ≡ windowWords (start .args .pattern .now) (start .args .«record» .now) =
     all-words (start .args .pattern .now) (start .args .«record» .now) (at-loop .loop .at) (omega (arith, h .within, h .less, c .loop-test .left)) in
@@ -250,23 +232,22 @@ slide-spec =
     count-letters-requires
     slice-aggregate-count-letters
     count-letters-requires-2
-    count-differences-requires
+    subtract-requires
+    count-nonzero-requires
     loop-holds
     add-loop
     add-joins
     shared-slice-read-joins
-    sub-joins
     cast-joins
-    array-read-more
-    add-more
+    cast-joins-2
+    sub-joins
     change-requires
     add-note
     note-requires
     shared-slice-read-leaves
-    sub-leaves
     cast-leaves
-    array-read-fewer
-    sub-fewer
+    cast-leaves-2
+    sub-leaves
     change-requires-2
     add-at
     loop-less
