@@ -1,5 +1,7 @@
-// Text on standard output: numbers, and the output words of a list by their kinds.
+// Where a text's parts end; and text on standard output: numbers, and the output words of a list by their kinds.
 use libc::STDOUT_FILENO;
+ghost use Prim.Native.Nat.{_≤_};
+ghost use lib.ListN.{length};
 
 // What one of an output word's kind counts.
 const KIND: u32 = 268435456;
@@ -14,6 +16,18 @@ const LEFT: u32 = 256;
 
 // What each place of a slice holds before a call. The kind of an output word is above 0, so none is this number.
 pub(crate) const UNWRITTEN: u32 = 9;
+
+// Where the byte stands next in a text, from the given position on, or the text's end where it does not.
+pub(crate) fn next(text: &[u8], from: usize, byte: u8) -> usize
+    requires { ⌜ from ≤ length (now text) ⌝ }
+    ensures { λ r. ⌜ (from ≤ r) × (r ≤ length (now (text .entry))) ⌝ }
+{
+    let mut at = from;
+    while at < text.len() && text[at] != byte {
+        at += 1;
+    }
+    at
+}
 
 // Prints bytes.
 pub(crate) fn say(text: &[u8]) {
@@ -57,8 +71,15 @@ fn say_hands(word: u32) {
     say_number(b'>', right as usize);
 }
 
+// Prints a window: @start.
+fn say_start(word: u32) {
+    let start = word % KIND;
+    say(b" ");
+    say_number(b'@', start as usize);
+}
+
 // Prints an output word by its kind: a period as h,p, a square as start:half, a full period as p*(n / p), a run as i/d and behind it its end
-// and its hands. A raw word, and one of any other kind, is printed as the number that it is.
+// and its hands, a window as @start. A raw word, and one of any other kind, is printed as the number that it is.
 fn say_word(raw: bool, word: u32) {
     if raw {
         return say_place(word);
@@ -72,6 +93,7 @@ fn say_word(raw: bool, word: u32) {
         3 => say_two(upper, b'*', lower),
         5 => say_two(lower, b'/', upper),
         6 => say_hands(word),
+        7 => say_start(word),
         _ => say_place(word),
     }
 }

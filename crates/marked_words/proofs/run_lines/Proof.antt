@@ -14,8 +14,8 @@ abbrev μ-loop : tie.MeasureT-loop
 loop-holds : tie.Need-loop-holds Inv-loop μ-loop
 loop-holds c = search needs
 
-line-end-requires : tie.Need-line-end-requires Inv-loop μ-loop
-line-end-requires c κs = search needs
+next-requires : tie.Need-next-requires Inv-loop μ-loop
+next-requires c κs = search needs
 
 sub-say-line : tie.Need-sub-say-line Inv-loop μ-loop
 sub-say-line c = search needs
@@ -48,7 +48,7 @@ run-lines-spec =
     Inv-loop
     μ-loop
     loop-holds
-    line-end-requires
+    next-requires
     sub-say-line
     part-say-line-start
     part-say-line-end
