@@ -1,13 +1,14 @@
 /*
  * Luffbutton: cycles in event words. It finds the Abelian periods, the full periods, the Abelian squares, the Abelian runs and the covers
- * of a word, and has a tracker that knows the periods of a word while letters join its end and are taken back.
+ * of a word, and the anagrams of a short pattern in a long record, and has a tracker that knows the periods of a word while letters join its
+ * end and are taken back.
  *
  * HOW TO LINK. `bin/install PREFIX` puts this header, lib/libluffbutton.a and lib/pkgconfig/luffbutton.pc under PREFIX. With
  * PREFIX/lib/pkgconfig in PKG_CONFIG_PATH:
  *
  *     cc program.c $(pkg-config --cflags --libs luffbutton)
  *
- * The archive is for x86-64 Linux (System V calls, 64-bit size_t). It has twenty-three functions that can be linked, all with the prefix
+ * The archive is for x86-64 Linux (System V calls, 64-bit size_t). It has twenty-five functions that can be linked, all with the prefix
  * luff_, and needs two of the C library: memcpy and memset. This header is for C99 or later and for C++.
  *
  * TERMS. A word is n bytes, each a letter: LUFF_FIRST_LETTER and the bytes behind it, LUFF_LETTERS in all, a to p. It has LUFF_LONGEST
@@ -40,6 +41,12 @@
  * of the word that end at i - 1 and begin at j + 1 and are contained in a block; a hand may have no letters. An Abelian run is a maximal
  * repetition with its hands. Of abaababa, the run with d = 3 and i = 1 has j = 6, left 0, right 2: aba, aba, then ba.
  *
+ * A record is n bytes, each one of the same letters. It has LUFF_LONGEST_RECORD letters at most and may have none; it is no word, and may
+ * be longer than one. A pattern is a word of one letter or more that is looked for in a record. A window of it is a stretch of the record
+ * that is as long as the pattern and has the same counts, and so is an anagram of it: the pattern with its letters in some order. Its start
+ * is the position of its first letter in the record. Windows may overlap. In abbaab, the pattern ab has the windows ab, ba and ab, with the
+ * starts 1, 3 and 5.
+ *
  * The ended length of a pair is the smallest m from h + p to n at which the pair is no Abelian period of the first m letters, or 0 where
  * there is none. A pair that has ended does not become an Abelian period again by more letters.
  *
@@ -52,13 +59,14 @@
  * COUNTS. Each list call but luff_tracker_replay has a count beside it, luff_count_plain for luff_list_plain and so on, which says how many
  * words that call writes. It goes the same way as the list, but takes no places and writes nothing. It meets every refusal of the list but
  * 3. Where it is accepted, the list is accepted with as many places as it says or more, and with fewer it is refused with 3. So a caller
- * that allocates asks for the count and then makes the list. The list finds its words again, and a luff_report with just as many places
- * counts again too; who can spare places enough for every word (LUFF_MOST_.., LUFF_BOUND_RUNS) need not ask.
+ * that allocates asks for the count and then makes the list. The list finds its words again, and a luff_report or a luff_list_windows with
+ * just as many places counts again too, unless these are enough for every such list. Who can spare places enough (LUFF_MOST_..,
+ * LUFF_BOUND_RUNS) need not ask.
  *
- * WHAT A CALLER OWES. No pointer is NULL, also not that of an empty word or of no places: pass any address of the program's, such as that
- * of a variable of the pointer's type. A pointer leads to as many bytes or places as are said, aligned as its type asks. What a call may
- * write, which is the places and, but for a list or a count, the tracker, overlaps nothing else that is passed to the same call. What
- * stands in the places before a call does not matter.
+ * WHAT A CALLER OWES. No pointer is NULL, also not that of an empty word or record or of no places: pass any address of the program's, such
+ * as that of a variable of the pointer's type. A pointer leads to as many bytes or places as are said, aligned as its type asks. What a
+ * call may write, which is the places and, but for a list or a count, the tracker, overlaps nothing else that is passed to the same call.
+ * What is only read may overlap: a pattern may be a part of its record. What stands in the places before a call does not matter.
  *
  * AT THE SAME TIME. The library allocates nothing, keeps nothing between calls and takes no lock. Calls may run at the same time where
  * none writes what another reads or writes: calls on different places and trackers, and also several lists and counts of one tracker,
@@ -67,10 +75,10 @@
  * the stack pointer, as System V allows: a signal spares them, and an interrupt handler without an operating system needs a stack of its
  * own.
  *
- * STACK AND TIME. The macros LUFF_STACK_.. below limit the bytes of stack that a call takes beyond the word, the places and the tracker that
- * it is lent. They are measured and not proved: examples/c/stack_use.c makes each call in several ways and fails above them. How the time
- * grows was measured from 120 to 240 letters on words of six kinds, that of luff_list_runs also on abba repeated, as n to the power
- * (docs/PERFORMANCE.md, which has the times too):
+ * STACK AND TIME. The macros LUFF_STACK_.. below limit the bytes of stack that a call takes beyond the word, the record, the places and the
+ * tracker that it is lent. They are measured and not proved: examples/c/stack_use.c makes each call in several ways and fails above them.
+ * How the time grows was measured from 120 to 240 letters on words of six kinds, that of luff_list_runs also on abba repeated, and that of
+ * luff_list_windows on records of 1,024 to 65,536 letters, as n to the power (docs/PERFORMANCE.md, which has the times too):
  *
  *     luff_list_plain, luff_list_skipping           1.8 to 2.1
  *     luff_list_squares, luff_report                1.8 to 1.9
@@ -78,6 +86,7 @@
  *     luff_tracker_add, n being the letters held    1.8 to 2.0
  *     luff_list_full                                1.0 to 1.3
  *     luff_find_cover                               1.0 to 1.1
+ *     luff_list_windows                             about 1.0
  *     luff_list_full_scaled, luff_judge             0.5 to 1.0
  *
  * A count took 0.2 to 1.0 times as long as its list on these words. A luff_tracker_list and a luff_tracker_count go through the entries of
@@ -99,24 +108,29 @@ extern "C" {
 #endif
 
 /* The version of this interface. It rises with each change of an answer or of a layout, and with each function that joins. */
-#define LUFF_VERSION 4
+#define LUFF_VERSION 5
 
 /* The byte of the first letter, a, and how many letters there are. */
 #define LUFF_FIRST_LETTER 97
 #define LUFF_LETTERS 16
 
-/* The longest word, and a board's entries: one for each pair in range for it. */
+/* The longest word, and so the longest pattern, and a board's entries: one for each pair in range for it. */
 #define LUFF_LONGEST 240
 #define LUFF_BOARD 14520
 
+/* The longest record. */
+#define LUFF_LONGEST_RECORD 65536
+
 /*
  * The most words that a list can have: periods, 58,080 bytes; squares, 57,600 bytes; full periods, 80 bytes; a report, 115,764 bytes, which
- * is one word and the other three. With so many places no list is too long.
+ * is one word and the other three; windows, 262,144 bytes, which a pattern of one letter has in the longest record of that letter alone.
+ * With so many places no list is too long. For windows as many places as the record has letters are also enough.
  */
 #define LUFF_MOST_PERIODS 14520
 #define LUFF_MOST_SQUARES 14400
 #define LUFF_MOST_FULL 20
 #define LUFF_MOST_REPORT 28941
+#define LUFF_MOST_WINDOWS 65536
 
 /*
  * Places enough for the runs of every word, 70,728 bytes: no two runs of one d start d letters apart, and each is two words. It is a
@@ -135,19 +149,21 @@ extern "C" {
 #define LUFF_STACK_LIST_FULL_SCALED 4096
 #define LUFF_STACK_LIST_SQUARES 20480
 #define LUFF_STACK_LIST_RUNS 24576
+#define LUFF_STACK_LIST_WINDOWS 4096
 #define LUFF_STACK_FIND_COVER 4096
 #define LUFF_STACK_REPORT 32768
 #define LUFF_STACK_TRACKER 12288
 #define LUFF_STACK LUFF_STACK_REPORT
 
 /*
- * What `refusal` is. Where several apply, the first counts: of a word in the order 1, 2, 7, 3, of a tracker in the order 6, 2, 4, 5, 3.
+ * What `refusal` is. Where several apply, the first counts: of a word in the order 1, 2, 7, 3, of a tracker in the order 6, 2, 4, 5, 3, of a
+ * pattern and a record in the order 1 and 2 of the pattern, 8, 9, 2 of the record, 3.
  */
 enum luff_refusal {
     LUFF_ACCEPTED = 0,
-    /* The word has more than LUFF_LONGEST letters. */
+    /* The word or the pattern has more than LUFF_LONGEST letters. */
     LUFF_TOO_LONG = 1,
-    /* A byte is no letter. Value: the first such position; 1 for an add. */
+    /* A byte is no letter. Value: the first such position, in the word, the pattern or the record; 1 for an add. */
     LUFF_NOT_A_LETTER = 2,
     /* The list is longer than the places. Value: the words needed. */
     LUFF_SLICE_TOO_SHORT = 3,
@@ -158,11 +174,16 @@ enum luff_refusal {
     /* The tracker's length is above LUFF_LONGEST, or a byte within its length is no letter. */
     LUFF_TRACKER_DAMAGED = 6,
     /* The judge's pair is out of range for the word. */
-    LUFF_PAIR_OUT_OF_RANGE = 7
+    LUFF_PAIR_OUT_OF_RANGE = 7,
+    /* The pattern has no letters. */
+    LUFF_PATTERN_EMPTY = 8,
+    /* The record has more than LUFF_LONGEST_RECORD bytes. */
+    LUFF_RECORD_TOO_LONG = 9
 };
 
 /*
- * An output word has its kind in the top 4 bits, then, but for LUFF_KIND_HANDS, an upper and a lower number of 14 bits each.
+ * An output word has its kind in the top 4 bits, then, but for LUFF_KIND_HANDS and LUFF_KIND_WINDOW, an upper and a lower number of 14 bits
+ * each.
  *   LUFF_KIND_PERIOD   upper: period p       lower: head h
  *   LUFF_KIND_SQUARE   upper: half length    lower: start
  *   LUFF_KIND_FULL     upper: full period p  lower: n / p
@@ -173,12 +194,16 @@ enum luff_refusal {
  * then the lengths of the left hand and of the right hand in 8 bits each. LUFF_WORD_KIND and the three macros LUFF_RUN_.. read it;
  * LUFF_WORD_UPPER and LUFF_WORD_LOWER do not. So a list of runs is read two words at a time: d and i are LUFF_WORD_UPPER and
  * LUFF_WORD_LOWER of out[k], and j and the hands are LUFF_RUN_END, LUFF_RUN_LEFT and LUFF_RUN_RIGHT of out[k + 1].
+ *
+ * A word of LUFF_KIND_WINDOW has one number below its kind, the start in 28 bits, since a record may have more letters than 14 bits can
+ * count. LUFF_WORD_KIND and LUFF_WINDOW_START read it; LUFF_WORD_UPPER and LUFF_WORD_LOWER do not.
  */
 #define LUFF_KIND_PERIOD 1u
 #define LUFF_KIND_SQUARE 2u
 #define LUFF_KIND_FULL 3u
 #define LUFF_KIND_RUN 5u
 #define LUFF_KIND_HANDS 6u
+#define LUFF_KIND_WINDOW 7u
 #define LUFF_KIND_REPORT 8u
 #define LUFF_WORD_KIND(word) ((uint32_t)(word) >> 28)
 #define LUFF_WORD_UPPER(word) (((uint32_t)(word) >> 14) & 0x3fffu)
@@ -186,6 +211,7 @@ enum luff_refusal {
 #define LUFF_RUN_END(word) (((uint32_t)(word) >> 16) & 0xfffu)
 #define LUFF_RUN_LEFT(word) (((uint32_t)(word) >> 8) & 0xffu)
 #define LUFF_RUN_RIGHT(word) ((uint32_t)(word) & 0xffu)
+#define LUFF_WINDOW_START(word) ((uint32_t)(word) & 0xfffffffu)
 
 /* The length of a head, and that of a period: two types, so that neither is taken for the other. */
 struct luff_head {
@@ -268,7 +294,8 @@ struct luff_replayed {
 struct luff_verdict luff_judge(const uint8_t *word, size_t n, struct luff_head head, struct luff_period period);
 
 /*
- * The list calls write their words to the first of `places` places at `out` and leave the places behind them as they are. Refusals 1, 2, 3.
+ * The list calls write their words to the first of `places` places at `out` and leave the places behind them as they are. Refusals 1, 2, 3;
+ * luff_list_windows, given below, has more.
  */
 
 /* All Abelian periods. trials: the pairs in range, which are all tried. */
@@ -303,6 +330,19 @@ struct luff_counted luff_count_full_scaled(const uint8_t *word, size_t n);
 struct luff_counted luff_count_squares(const uint8_t *word, size_t n);
 struct luff_counted luff_count_runs(const uint8_t *word, size_t n);
 struct luff_counted luff_count_report(const uint8_t *word, size_t n);
+
+/*
+ * All windows of a pattern of m letters in a record of n, by rising start. A record with fewer letters than the pattern, the empty one too,
+ * has none. From one start to the next one letter leaves and one joins, so that the time grows as m + n does. With fewer than n places the
+ * windows are counted before they are written, which takes time; with n or more, as LUFF_MOST_WINDOWS always are, that is spared.
+ * Refusals, in this order: 1 and 2 of the pattern, 8, 9, 2 of the record, 3. Refusal 1 is never the record's. Whether a refusal 2 is the
+ * pattern's, a call with 0 letters of the record tells: it meets the pattern's refusals alone.
+ */
+struct luff_wrote luff_list_windows(const uint8_t *pattern, size_t m, const uint8_t *record, size_t n, uint32_t *LUFF_RESTRICT out,
+                                    size_t places);
+
+/* How many words luff_list_windows writes. Its refusals but 3, in the same order. */
+struct luff_counted luff_count_windows(const uint8_t *pattern, size_t m, const uint8_t *record, size_t n);
 
 /* Looks for a cover. Refusals 1, 2. */
 struct luff_cover luff_find_cover(const uint8_t *word, size_t n);

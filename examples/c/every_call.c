@@ -14,12 +14,17 @@ static const uint8_t *bytes(const char *word)
     return (const uint8_t *)word;
 }
 
-/* Prints the numbers of an output word: kind, upper and lower number; of a run's second word kind, end, left and right hand. */
+/*
+ * Prints the numbers of an output word: kind, upper and lower number; of a run's second word kind, end, left and right hand; of a window's
+ * word kind and start.
+ */
 static void print_word(uint32_t word)
 {
     printf(" %u", (unsigned)LUFF_WORD_KIND(word));
     if (LUFF_WORD_KIND(word) == LUFF_KIND_HANDS) {
         printf("/%u/%u/%u", (unsigned)LUFF_RUN_END(word), (unsigned)LUFF_RUN_LEFT(word), (unsigned)LUFF_RUN_RIGHT(word));
+    } else if (LUFF_WORD_KIND(word) == LUFF_KIND_WINDOW) {
+        printf("/%u", (unsigned)LUFF_WINDOW_START(word));
     } else {
         printf("/%u/%u", (unsigned)LUFF_WORD_UPPER(word), (unsigned)LUFF_WORD_LOWER(word));
     }
@@ -113,6 +118,30 @@ static void count(const char *word)
     printf("\n");
 }
 
+static void list_windows(const char *pattern, const char *record, size_t places)
+{
+    printf("windows %s in %s, %zu places: ", pattern, record, places);
+    print_list(luff_list_windows(bytes(pattern), strlen(pattern), bytes(record), strlen(record), out, places));
+}
+
+static void count_windows(const char *pattern, const char *record)
+{
+    printf("counts %s in %s", pattern, record);
+    print_counted("windows", luff_count_windows(bytes(pattern), strlen(pattern), bytes(record), strlen(record)));
+    printf("\n");
+}
+
+/* The longest record, of a and at its end b: a start that takes more than 14 bits. The pattern is a part of the record. */
+static void list_last_window(void)
+{
+    static uint8_t record[LUFF_LONGEST_RECORD];
+    const uint8_t *last = record + LUFF_LONGEST_RECORD - 1;
+    memset(record, 'a', LUFF_LONGEST_RECORD);
+    record[LUFF_LONGEST_RECORD - 1] = 'b';
+    printf("windows b in the longest record, %d places: ", PLACES);
+    print_list(luff_list_windows(last, 1, record, LUFF_LONGEST_RECORD, out, PLACES));
+}
+
 static void list_tracker(const char *name)
 {
     printf("%s %.*s: list ", name, (int)tracker.length, (const char *)tracker.bytes);
@@ -168,6 +197,12 @@ int main(void)
     report("abb", 4);
     count("abaababa");
     count("aBc");
+    list_windows("ab", "abbaab", PLACES);
+    list_windows("ab", "abbaab", 2);
+    list_windows("", "abbaab", PLACES);
+    list_last_window();
+    count_windows("ab", "abbaab");
+    count_windows("ab", "abB");
     track();
     replay("-ab!?abb-", PLACES);
     replay("aaaa", 5);

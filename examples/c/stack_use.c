@@ -1,9 +1,10 @@
 /*
  * How much stack each call takes, held against the header's limit. A call is made on a stack of its own that was painted before: the lowest
  * byte that is no longer painted is the lowest that was used, and from that comes off what is used there without a call. Each call is made
- * in several ways, on words of the greatest length and on trackers that hold as many letters as the call can take, a list, an add and a take-back also refused;
- * the one that takes most counts. A tracker is lent by the caller and is not part of it. Prints for each call whether it is within its
- * limit; with an argument it prints the bytes too. The exit status is 1 where a call is above its limit.
+ * in several ways, on words and records of the greatest length and on trackers that hold as many letters as the call can take, a list, an
+ * add and a take-back also refused; the one that takes most counts. A record and a tracker are lent by the caller and are not part of it.
+ * Prints for each call whether it is within its limit; with an argument it prints the bytes too. The exit status is 1 where a call is above
+ * its limit.
  */
 #define _XOPEN_SOURCE 600
 #include <stdio.h>
@@ -17,26 +18,46 @@
 #define PAINT 0xa5
 #define NOT_A_LETTER '?'
 
-/* The words: each is one of these blocks of letters, over and over. */
+/*
+ * The words and the records: each is one of these blocks of letters, over and over. The word is also the pattern that is looked for in the
+ * record, which has room for one letter too many.
+ */
 static const char *const blocks[] = {"a", "a", "ab", "abaababa", "abcdefghijklmnop"};
 static uint8_t word[LUFF_LONGEST];
+static uint8_t record[LUFF_LONGEST_RECORD + 1];
 
-/* What the calls are made with: how many places, how many letters the tracker holds, and whether the byte added is a letter. */
+/* How many places a list of windows gets: enough for every list, as many as it needs, or one fewer. */
+enum lent {
+    ENOUGH,
+    NEEDED,
+    TOO_FEW
+};
+
+/*
+ * What the calls are made with: how many places, how many letters the tracker holds, whether the byte added is a letter, and for windows how
+ * many letters of the record and how many places.
+ */
 struct way {
     size_t places;
     size_t held;
     uint8_t letter;
+    size_t record_letters;
+    enum lent lent;
 };
 static const struct way ways[] = {
-    {LUFF_MOST_REPORT, LUFF_LONGEST - 1, 'a'},
-    {LUFF_MOST_REPORT - 1, LUFF_LONGEST, 'a'},
-    {LUFF_MOST_REPORT, LUFF_LONGEST - 1, 'b'},
-    {0, LUFF_LONGEST - 1, NOT_A_LETTER},
-    {0, 0, NOT_A_LETTER},
+    {LUFF_MOST_REPORT, LUFF_LONGEST - 1, 'a', LUFF_LONGEST_RECORD, ENOUGH},
+    {LUFF_MOST_REPORT - 1, LUFF_LONGEST, 'a', LUFF_LONGEST_RECORD, NEEDED},
+    {LUFF_MOST_REPORT, LUFF_LONGEST - 1, 'b', LUFF_LONGEST_RECORD, TOO_FEW},
+    {0, LUFF_LONGEST - 1, NOT_A_LETTER, LUFF_LONGEST_RECORD + 1, ENOUGH},
+    {0, 0, NOT_A_LETTER, LUFF_LONGEST - 1, ENOUGH},
 };
 static struct way way;
 
-static uint32_t out[LUFF_MOST_REPORT];
+/* The places that the way lends to a list of windows, in number. */
+static size_t window_places;
+
+/* Room for the longest list, which is that of windows. */
+static uint32_t out[LUFF_MOST_WINDOWS];
 static struct luff_tracker tracker;
 
 static void none(void)
@@ -80,6 +101,11 @@ static void list_runs(void)
     luff_list_runs(word, LUFF_LONGEST, out, way.places);
 }
 
+static void list_windows(void)
+{
+    luff_list_windows(word, LUFF_LONGEST, record, way.record_letters, out, window_places);
+}
+
 static void count_plain(void)
 {
     luff_count_plain(word, LUFF_LONGEST);
@@ -108,6 +134,11 @@ static void count_squares(void)
 static void count_runs(void)
 {
     luff_count_runs(word, LUFF_LONGEST);
+}
+
+static void count_windows(void)
+{
+    luff_count_windows(word, LUFF_LONGEST, record, way.record_letters);
 }
 
 static void count_report(void)
@@ -180,6 +211,7 @@ static const struct {
     {"list_full_scaled", list_full_scaled, LUFF_STACK_LIST_FULL_SCALED},
     {"list_squares", list_squares, LUFF_STACK_LIST_SQUARES},
     {"list_runs", list_runs, LUFF_STACK_LIST_RUNS},
+    {"list_windows", list_windows, LUFF_STACK_LIST_WINDOWS},
     {"find_cover", find_cover, LUFF_STACK_FIND_COVER},
     {"report", report, LUFF_STACK_REPORT},
     {"count_plain", count_plain, LUFF_STACK_LIST_PLAIN},
@@ -188,6 +220,7 @@ static const struct {
     {"count_full_scaled", count_full_scaled, LUFF_STACK_LIST_FULL_SCALED},
     {"count_squares", count_squares, LUFF_STACK_LIST_SQUARES},
     {"count_runs", count_runs, LUFF_STACK_LIST_RUNS},
+    {"count_windows", count_windows, LUFF_STACK_LIST_WINDOWS},
     {"count_report", count_report, LUFF_STACK_REPORT},
     {"fresh", fresh, LUFF_STACK_TRACKER},
     {"add", add, LUFF_STACK_TRACKER},
@@ -220,12 +253,19 @@ static size_t used(void (*make)(void), uint8_t *stack)
     return STACK - untouched;
 }
 
-/* The word is the block over and over, and the tracker holds the first letters of it. */
+/*
+ * The word and the record are the block over and over, and the tracker holds the first letters of the word. The record begins with the word,
+ * so that a record of the greatest length has one window or more.
+ */
 static void prepare(const char *block)
 {
-    for (size_t i = 0; i < LUFF_LONGEST; i++) {
-        word[i] = (uint8_t)block[i % strlen(block)];
+    size_t letters = strlen(block);
+    for (size_t i = 0; i < sizeof record; i++) {
+        record[i] = (uint8_t)block[i % letters];
     }
+    memcpy(word, record, LUFF_LONGEST);
+    size_t needed = luff_count_windows(word, LUFF_LONGEST, record, way.record_letters).words;
+    window_places = way.lent == ENOUGH ? LUFF_MOST_WINDOWS : way.lent == NEEDED ? needed : needed - 1;
     luff_tracker_fresh(&tracker);
     for (size_t i = 0; i < way.held; i++) {
         luff_tracker_add(&tracker, word[i]);
