@@ -4,7 +4,7 @@ use luffbutton::{Fields, Head, Period};
 /// The numbers of any call's answer. Those that a call does not have are 0.
 #[derive(Clone, Copy, Debug, Default, PartialEq, Eq)]
 pub struct Answer {
-    /// The refusal's number in document 01's table, 0 where the call is accepted.
+    /// The refusal's number in document 01's table or in request C-13, 0 where the call is accepted.
     pub number: usize,
     /// The refusal's value.
     pub value: usize,
@@ -48,8 +48,8 @@ impl Answer {
     }
 }
 
-/// The calls of document 01 and of the requests C-11 and C-12 with all their numbers, so that one test can be run on the library and on a
-/// second implementation.
+/// The calls of document 01 and of the requests C-11, C-12 and C-13 with all their numbers, so that one test can be run on the library and
+/// on a second implementation.
 /// A list call writes to `out`; a tracker call but `list` and `count` changes the fields.
 pub trait Calls {
     fn judge(&self, word: &[u8], head: Head, period: Period) -> Answer;
@@ -68,6 +68,8 @@ pub trait Calls {
     fn count_squares(&self, word: &[u8]) -> Answer;
     fn count_runs(&self, word: &[u8]) -> Answer;
     fn count_report(&self, word: &[u8]) -> Answer;
+    fn list_windows(&self, pattern: &[u8], record: &[u8], out: &mut [u32]) -> Answer;
+    fn count_windows(&self, pattern: &[u8], record: &[u8]) -> Answer;
     fn fresh(&self, tracker: &mut Fields);
     fn add(&self, tracker: &mut Fields, letter: u8) -> Answer;
     fn take_back(&self, tracker: &mut Fields) -> Answer;

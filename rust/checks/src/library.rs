@@ -94,6 +94,14 @@ impl Calls for Library {
         numbers::count_report(word).into()
     }
 
+    fn list_windows(&self, pattern: &[u8], record: &[u8], out: &mut [u32]) -> Answer {
+        numbers::list_windows(pattern, record, out).into()
+    }
+
+    fn count_windows(&self, pattern: &[u8], record: &[u8]) -> Answer {
+        numbers::count_windows(pattern, record).into()
+    }
+
     fn fresh(&self, tracker: &mut Fields) {
         numbers::fresh(tracker);
     }

@@ -18,11 +18,11 @@ const TURN: Duration = Duration::from_micros(40);
 /// A contender's turn: the microseconds of one call.
 pub type Turn<'a> = Box<dyn FnMut() -> f64 + 'a>;
 
-/// Times of one kind of call: for each word and each size, a time for each contender, the library's first.
+/// Times of one kind of call: for each word, or pattern and record, and each size, a time for each contender, the library's first.
 pub struct Timed {
     pub call: &'static str,
     pub contenders: Vec<&'static str>,
-    pub words: Vec<(&'static str, Vec<Vec<f64>>)>,
+    pub words: Vec<(String, Vec<Vec<f64>>)>,
 }
 
 impl Timed {

@@ -25,6 +25,11 @@ pub enum Finding {
         /// How many blocks the word has.
         blocks: usize,
     },
+    /// Kind 7: an anagram window of a pattern in a record.
+    Window {
+        /// The window's first position in the record.
+        start: usize,
+    },
     /// Kind 8: a report's first word.
     ReportHead {
         /// The word's length.
@@ -52,6 +57,10 @@ impl Finding {
             3 => Some(Finding::Full {
                 period: Period(upper),
                 blocks: lower,
+            }),
+            // The start is the whole of what stands below the kind.
+            7 => Some(Finding::Window {
+                start: (word - (7 << 28)) as usize,
             }),
             8 => Some(Finding::ReportHead {
                 length: upper,

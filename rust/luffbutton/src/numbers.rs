@@ -138,6 +138,15 @@ extern "C" {
     fn luff_count_runs(word: *const u8, n: usize) -> Counted;
     fn luff_count_report(word: *const u8, n: usize) -> Counted;
     fn luff_find_cover(word: *const u8, n: usize) -> Cover;
+    fn luff_list_windows(
+        pattern: *const u8,
+        m: usize,
+        record: *const u8,
+        n: usize,
+        out: *mut u32,
+        places: usize,
+    ) -> Wrote;
+    fn luff_count_windows(pattern: *const u8, m: usize, record: *const u8, n: usize) -> Counted;
     fn luff_tracker_fresh_fields(
         length: *mut usize,
         bytes: *mut [u8; LONGEST],
@@ -276,6 +285,28 @@ pub fn count_report(word: &[u8]) -> Counted {
 pub fn find_cover(word: &[u8]) -> Cover {
     // SAFETY: the word is valid for its length.
     unsafe { luff_find_cover(word.as_ptr(), word.len()) }
+}
+
+/// Lists the anagram windows of a pattern in a record.
+pub fn list_windows(pattern: &[u8], record: &[u8], out: &mut [u32]) -> Wrote {
+    // SAFETY: the three slices are valid for their lengths. Pattern and record are only read, so that one may be a part of the other.
+    unsafe {
+        luff_list_windows(
+            pattern.as_ptr(),
+            pattern.len(),
+            record.as_ptr(),
+            record.len(),
+            out.as_mut_ptr(),
+            out.len(),
+        )
+    }
+}
+
+/// Counts the words of [`list_windows`].
+pub fn count_windows(pattern: &[u8], record: &[u8]) -> Counted {
+    let (m, n) = (pattern.len(), record.len());
+    // SAFETY: both slices are valid for their lengths.
+    unsafe { luff_count_windows(pattern.as_ptr(), m, record.as_ptr(), n) }
 }
 
 /// Makes the fields those of a fresh tracker, whatever stood there.

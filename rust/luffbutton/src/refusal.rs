@@ -1,15 +1,16 @@
 //! Why a call was refused.
-use crate::vocabulary::LONGEST;
+use crate::vocabulary::{LONGEST, LONGEST_RECORD};
 use core::fmt;
 
 /// Why a call was refused, with the number and the value that the C header gives it.
 #[derive(Clone, Copy, Debug, PartialEq, Eq)]
 pub enum Refusal {
-    /// 1: the word has more letters than the longest word.
+    /// 1: the word has more letters than the longest word. A pattern is a word; a record is none, and is never refused with it.
     TooLong,
-    /// 2: a byte is no letter.
+    /// 2: a byte is no letter. Where there is a pattern and a record, it is the pattern's byte, or the record's where every byte of the
+    /// pattern is a letter.
     NotALetter {
-        /// The first such position, counted from 1; 1 for an add.
+        /// The first such position, counted from 1 in the word, the pattern or the record; 1 for an add.
         position: usize,
     },
     /// 3: the list is longer than the slice.
@@ -25,6 +26,10 @@ pub enum Refusal {
     TrackerDamaged,
     /// 7: the judge's pair is out of range for the word.
     PairOutOfRange,
+    /// 8: the pattern has no letter.
+    PatternEmpty,
+    /// 9: the record has more bytes than the longest record.
+    RecordTooLong,
 }
 
 impl Refusal {
@@ -39,6 +44,8 @@ impl Refusal {
             5 => Err(Refusal::TrackerEmpty),
             6 => Err(Refusal::TrackerDamaged),
             7 => Err(Refusal::PairOutOfRange),
+            8 => Err(Refusal::PatternEmpty),
+            9 => Err(Refusal::RecordTooLong),
             _ => unreachable!("the library has no refusal {number}"),
         }
     }
@@ -53,6 +60,8 @@ impl Refusal {
             Refusal::TrackerEmpty => 5,
             Refusal::TrackerDamaged => 6,
             Refusal::PairOutOfRange => 7,
+            Refusal::PatternEmpty => 8,
+            Refusal::RecordTooLong => 9,
         }
     }
 
@@ -78,6 +87,8 @@ impl fmt::Display for Refusal {
             Refusal::TrackerEmpty => write!(f, "the tracker holds no letter"),
             Refusal::TrackerDamaged => write!(f, "the tracker is damaged"),
             Refusal::PairOutOfRange => write!(f, "the pair is out of range for the word"),
+            Refusal::PatternEmpty => write!(f, "the pattern has no letter"),
+            Refusal::RecordTooLong => write!(f, "the record has more than {LONGEST_RECORD} bytes"),
         }
     }
 }

@@ -9,6 +9,9 @@ pub const FIRST_LETTER: u8 = b'a';
 /// The longest word.
 pub const LONGEST: usize = 240;
 
+/// The longest record in which windows are looked for.
+pub const LONGEST_RECORD: usize = 65536;
+
 /// A board's entries, one for each pair in range for the longest word.
 pub const BOARD: usize = 14520;
 
@@ -25,6 +28,9 @@ pub const MOST_FULL: usize = 20;
 /// words. It is a bound and not the most words that a list can have, which we do not know; the longest list that we have met, that of
 /// `aabb` sixty times, has 10,940.
 pub const BOUND_RUNS: usize = 17682;
+
+/// The most words that a list of windows can have: a start for each letter of the longest record, where the pattern has one letter.
+pub const MOST_WINDOWS: usize = LONGEST_RECORD;
 
 /// The most words that a report can have: its head and the three lists.
 pub const MOST_REPORT: usize = 1 + MOST_FULL + MOST_PERIODS + MOST_SQUARES;

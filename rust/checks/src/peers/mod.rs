@@ -1,11 +1,12 @@
-//! The papers' algorithms in plain Rust, to compare times with. Each takes what the library's call takes, checks the word and the slice
-//! as it does, and gives the same numbers and output words.
+//! The papers' algorithms in plain Rust, and for windows the one of request C-13, to compare times with. Each takes what the library's call
+//! takes, checks the word, or pattern and record, and the slice as it does, and gives the same numbers and output words.
 mod full_periods;
 mod periods;
 mod runs;
 mod select;
 mod squares;
 mod tracker;
+mod windows;
 
 pub use full_periods::list_full_002;
 pub use periods::{list_brute_force, list_counting_anew};
@@ -13,6 +14,7 @@ pub use runs::list_runs_003;
 pub use select::list_select_based;
 pub use squares::list_sliding_windows;
 pub use tracker::{add_in_place, OnLine};
+pub use windows::{count_windows_sliding, list_windows_collected, list_windows_in_two_passes};
 
 use crate::calls::Answer;
 use luffbutton::{FIRST_LETTER, LETTERS, LONGEST};

@@ -1,12 +1,13 @@
-//! A second implementation, written from document 01 and, for runs and counts, from the requests C-11 and C-12 alone, in the plainest way:
-//! every block is counted anew, every definition is tried word by word, and the tracker's machine is a list of letters. It shares no route
-//! with the library, which goes by prefix counts and boards.
+//! A second implementation, written from document 01 and, for runs, counts and windows, from the requests C-11, C-12 and C-13 alone, in the
+//! plainest way: every block and every window is counted anew, every definition is tried word by word, and the tracker's machine is a list
+//! of letters. It shares no route with the library, which goes by prefix counts, boards and counts that slide.
 mod covers;
 mod full_periods;
 mod periods;
 mod runs;
 mod squares;
 mod tracker;
+mod windows;
 mod words;
 
 pub use covers::cover_lengths;
@@ -14,6 +15,7 @@ pub use periods::{ended_length, in_range, is_period, pairs, periods, Pair};
 pub use runs::{runs, Run};
 pub use squares::squares;
 pub use tracker::{Machine, Prefixes};
+pub use windows::windows;
 pub use words::is_letter;
 
 use crate::calls::{Answer, Calls};
@@ -67,7 +69,12 @@ fn word_refusal(word: &[u8]) -> Option<Answer> {
     if word.len() > LONGEST {
         return Some(Answer::refused(1, 0));
     }
-    let first_outside = word.iter().position(|&byte| !is_letter(byte))?;
+    letters_refusal(word)
+}
+
+/// Refusal 2: the first position, counted from 1, at which a byte is no letter.
+fn letters_refusal(bytes: &[u8]) -> Option<Answer> {
+    let first_outside = bytes.iter().position(|&byte| !is_letter(byte))?;
     Some(Answer::refused(2, first_outside + 1))
 }
 
@@ -208,6 +215,14 @@ impl Calls for Reference {
         count_call(word, |word| {
             1 + full_periods(word).len() + periods(word).len() + squares(word).len()
         })
+    }
+
+    fn list_windows(&self, pattern: &[u8], record: &[u8], out: &mut [u32]) -> Answer {
+        windows::list(pattern, record, out)
+    }
+
+    fn count_windows(&self, pattern: &[u8], record: &[u8]) -> Answer {
+        windows::count(pattern, record)
     }
 
     fn fresh(&self, tracker: &mut Fields) {

@@ -1,14 +1,15 @@
 //! Counts (request C-12): the outside vectors' lists, marked words, and words of every kind, valid and damaged, on the library and on the
 //! second implementation; and what the request claims of a count and its list. A tracker's counts are also in `histories` and
-//! `made_trackers`.
+//! `made_trackers`, those of windows in `windows`.
 use crate::records::{read, read_runs, Answered, Call, CallsRecord, WordRecord};
 use crate::support::{assert_count_and_list_agree, assert_same_fields, seeded, shown, Shown};
-use crate::support::{not_a_letter, step, tracked, COUNT_CALLS, LIST_CALLS};
+use crate::support::{damage, not_a_letter, patterns_for, shown_windows};
+use crate::support::{step, tracked, COUNT_CALLS, LIST_CALLS};
 use checks::calls::{Answer, Calls};
 use checks::generator::{abba, alternating, fibonacci, Generator};
 use checks::library::Library;
 use checks::reference::Reference;
-use luffbutton::{FIRST_LETTER, LETTERS, LONGEST};
+use luffbutton::{FIRST_LETTER, LETTERS, LONGEST, LONGEST_RECORD};
 
 /// The library and the second implementation.
 const BOTH: [&dyn Calls; 2] = [&Library, &Reference];
@@ -193,6 +194,57 @@ fn damaged_words() {
                 word[at] = not_a_letter(&mut generator);
             }
             assert_eq!(compare(&word, &mut generator), 2 - too_long);
+        }
+    }
+}
+
+/// Compares the count of windows with the second implementation, and holds it against the library's own list. Returns the number of the
+/// refusal, or 0.
+fn compare_windows(pattern: &[u8], record: &[u8], generator: &mut Generator) -> usize {
+    let _shown = shown_windows(pattern, record);
+    let counted = Library.count_windows(pattern, record);
+    assert_eq!(counted, Reference.count_windows(pattern, record));
+    let list = |out: &mut [u32]| Library.list_windows(pattern, record, out);
+    assert_count_and_list_agree("count_windows", counted, list, generator);
+    counted.number
+}
+
+#[test]
+fn windows() {
+    let mut generator = seeded(123);
+    for n in (0..=40).chain([120, 241, 1000, 30000, LONGEST_RECORD]) {
+        for k in [1, 2, 3, LETTERS] {
+            let record = generator.uniform(n, k);
+            for pattern in patterns_for(&record, k, &mut generator) {
+                assert_eq!(compare_windows(&pattern, &record, &mut generator), 0);
+            }
+        }
+    }
+}
+
+/// Each refusal of the list but 3 is the count's too.
+#[test]
+fn windows_of_damaged_patterns_and_records() {
+    let mut generator = seeded(124);
+    for n in [1, 2, 30, 241, 1000] {
+        for m in [1, 2, 30, LONGEST] {
+            let (pattern, record) = (generator.uniform(m, 3), generator.uniform(n, 3));
+            let (mut bad_pattern, mut bad_record) = (pattern.clone(), record.clone());
+            damage(&mut bad_pattern, &mut generator);
+            damage(&mut bad_record, &mut generator);
+            let long_pattern = generator.uniform(LONGEST + m, 3);
+            let long_record = generator.uniform(LONGEST_RECORD + n, 3);
+            let refused: [(&[u8], &[u8], usize); 6] = [
+                (&long_pattern, &record, 1),
+                (&bad_pattern, &bad_record, 2),
+                (&pattern, &bad_record, 2),
+                (b"", &long_record, 8),
+                (&pattern, &long_record, 9),
+                (&pattern, &record, 0),
+            ];
+            for (pattern, record, number) in refused {
+                assert_eq!(compare_windows(pattern, record, &mut generator), number);
+            }
         }
     }
 }

@@ -3,8 +3,9 @@ use crate::support::lent;
 use checks::calls::{Answer, Calls};
 use checks::library::Library;
 use luffbutton::numbers::{Counted, Cover, Listed, Outcome, Replayed, Scaled, Verdict, Wrote};
-use luffbutton::{runs, Fields, Period, Refusal, Run, BOARD, BOUND_RUNS, CLEAR, FIRST_LETTER};
-use luffbutton::{LETTERS, LONGEST, MOST_FULL, MOST_PERIODS, MOST_REPORT, MOST_SQUARES, TAKE_BACK};
+use luffbutton::{findings, runs, Fields, Finding, Period, Refusal, Run, BOARD, BOUND_RUNS};
+use luffbutton::{CLEAR, FIRST_LETTER, LETTERS, LONGEST, LONGEST_RECORD, MOST_FULL, MOST_PERIODS};
+use luffbutton::{MOST_REPORT, MOST_SQUARES, MOST_WINDOWS, TAKE_BACK};
 use std::mem::{offset_of, size_of};
 
 const HEADER: &str = include_str!("../../../../include/luffbutton.h");
@@ -159,11 +160,12 @@ fn declared_in_rust() -> Vec<String> {
 #[test]
 fn functions() {
     assert_eq!(declared(), declared_in_rust());
-    assert!(HEADER.contains(" It has twenty-three functions "));
-    assert_eq!(declared().len(), 23);
+    assert!(HEADER.contains(" It has twenty-five functions "));
+    assert_eq!(declared().len(), 25);
 }
 
-/// Beside each list call on a word the header has a count, which takes the word alone; a tracker's is inline, as its list is.
+/// Beside each list call on a word the header has a count, which takes the word alone, and beside that of windows one which takes pattern and
+/// record alone; a tracker's is inline, as its list is.
 #[test]
 fn counts() {
     let declared = declared();
@@ -178,6 +180,14 @@ fn counts() {
         let count =
             format!("struct luff_counted luff_count_{listed}(const uint8_t *word, size_t n)");
         assert!(declared.contains(&count), "{count}");
+    }
+    let both = "const uint8_t *pattern, size_t m, const uint8_t *record, size_t n";
+    let windows = [
+        format!("struct luff_wrote luff_list_windows({both}, uint32_t *out, size_t places)"),
+        format!("struct luff_counted luff_count_windows({both})"),
+    ];
+    for function in windows {
+        assert!(declared.contains(&function), "{function}");
     }
     let inline = "struct luff_counted luff_tracker_count(const struct luff_tracker *tracker)";
     assert!(HEADER.contains(&format!("\nstatic inline {inline}\n")));
@@ -224,6 +234,7 @@ fn sizes() {
     assert_eq!(number("LUFF_FIRST_LETTER"), usize::from(FIRST_LETTER));
     assert_eq!(number("LUFF_LETTERS"), LETTERS);
     assert_eq!(number("LUFF_LONGEST"), LONGEST);
+    assert_eq!(number("LUFF_LONGEST_RECORD"), LONGEST_RECORD);
     assert_eq!(number("LUFF_BOARD"), BOARD);
     assert_eq!(number("LUFF_BOUND_RUNS"), BOUND_RUNS);
     // What is proved to be enough is the number of the crate runs.
@@ -254,10 +265,11 @@ fn stacks() {
         .filter(|(name, value)| name.starts_with("LUFF_STACK_") && !value.starts_with("LUFF_"))
         .map(|(name, _)| name)
         .collect();
-    assert_eq!(limits.len(), 10);
+    assert_eq!(limits.len(), 11);
     for name in limits {
         assert!(number(name) <= any, "{name}");
     }
+    assert!(number("LUFF_STACK_LIST_WINDOWS") <= 24 * 1024);
 }
 
 /// A word of one letter has every list but that of runs at its longest.
@@ -286,6 +298,15 @@ fn longest_lists() {
     }
 }
 
+/// The longest list of windows: a pattern of one letter in the longest record of that letter alone.
+#[test]
+fn longest_list_of_windows() {
+    assert_eq!(number("LUFF_MOST_WINDOWS"), MOST_WINDOWS);
+    let record = [FIRST_LETTER; LONGEST_RECORD];
+    let list = |out: &mut [u32]| Library.list_windows(&record[..1], &record, out);
+    assert_eq!(lent(MOST_WINDOWS, list).0, Answer::of_words(MOST_WINDOWS));
+}
+
 #[test]
 fn refusals_and_kinds() {
     let refusals = [
@@ -296,6 +317,8 @@ fn refusals_and_kinds() {
         ("LUFF_TRACKER_EMPTY", Refusal::TrackerEmpty),
         ("LUFF_TRACKER_DAMAGED", Refusal::TrackerDamaged),
         ("LUFF_PAIR_OUT_OF_RANGE", Refusal::PairOutOfRange),
+        ("LUFF_PATTERN_EMPTY", Refusal::PatternEmpty),
+        ("LUFF_RECORD_TOO_LONG", Refusal::RecordTooLong),
     ];
     for (name, refusal) in refusals {
         assert_eq!(number(name), refusal.number(), "{name}");
@@ -336,4 +359,24 @@ fn runs_by_macros() {
     };
     assert_eq!(words.len(), 2 * 4840);
     assert!(runs(words).eq(words.chunks(2).map(by_macros)));
+}
+
+/// The macros read from a window's word what the Rust crate reads from it, also a start that 14 bits do not hold.
+#[test]
+fn windows_by_macros() {
+    let record = [FIRST_LETTER; LONGEST_RECORD];
+    let (answer, out) = lent(MOST_WINDOWS, |out| {
+        Library.list_windows(&record[..1], &record, out)
+    });
+    let words = &out[..answer.written];
+    let [kind, start] = ["LUFF_WORD_KIND", "LUFF_WINDOW_START"].map(Reader::of);
+    let window = number("LUFF_KIND_WINDOW");
+    let by_macros = |&word: &u32| {
+        assert_eq!(kind.read(word), window);
+        let start = start.read(word);
+        Finding::Window { start }
+    };
+    let last = words.last().map(by_macros);
+    assert_eq!(last, Some(Finding::Window { start: 65536 }));
+    assert!(findings(words).eq(words.iter().map(by_macros)));
 }

@@ -1,13 +1,13 @@
 //! The safe interface: its types say what the numbers say.
-use crate::support::{lent, places_enough, seeded, shown};
+use crate::support::{lent, places_enough, seeded, shown, shown_windows};
 use checks::calls::{Answer, Calls};
 use checks::library::Library;
 use checks::reference::{self, pairs, periods, squares, Pair};
 use luffbutton::{count_full, count_full_scaled, count_plain, count_report, count_runs};
 use luffbutton::{count_skipping, count_squares, find_cover, findings, judge, list_full};
+use luffbutton::{count_windows, list_windows, runs, Cover, Finding, Head, Period, Refusal};
 use luffbutton::{list_full_scaled, list_plain, list_runs, list_skipping, list_squares, report};
-use luffbutton::{runs, Cover, Finding, Head, Period, Refusal, Run, Tracker, Verdict};
-use luffbutton::{BOARD, CLEAR, LONGEST, TAKE_BACK};
+use luffbutton::{Run, Tracker, Verdict, BOARD, CLEAR, LONGEST, LONGEST_RECORD, TAKE_BACK};
 use std::error::Error;
 use std::sync::Mutex;
 
@@ -250,6 +250,66 @@ fn runs_of_a_list() {
     );
 }
 
+/// The starts read from a list of windows are those of the second implementation, and the count says how many places the list needs.
+#[test]
+fn windows_of_a_list() {
+    let mut generator = seeded(84);
+    for n in (0..=40).chain([1000, LONGEST_RECORD]) {
+        let record = generator.uniform(n, 2);
+        let pattern = generator.uniform(1 + n % 7, 2);
+        let _shown = shown_windows(&pattern, &record);
+        let needed = count_windows(&pattern, &record).expect("a pattern and a record");
+        let mut out = vec![0; needed];
+        assert_eq!(list_windows(&pattern, &record, &mut out), Ok(needed));
+        let due = reference::windows(&pattern, &record).into_iter();
+        assert!(findings(&out).eq(due.map(|start| Finding::Window { start })));
+        if needed > 0 {
+            let short = list_windows(&pattern, &record, &mut out[1..]);
+            assert_eq!(short, Err(Refusal::SliceTooShort { needed }));
+        }
+    }
+}
+
+/// The start is all of a window's word below its kind: the greatest is read as others are, and is not taken for two numbers of 14 bits.
+#[test]
+fn windows_of_great_starts() {
+    for start in [1, 16383, 16384, 16385, 65535, 65536] {
+        let word = 7 * (1 << 28) + start as u32;
+        assert_eq!(Finding::of(word), Some(Finding::Window { start }));
+    }
+    let square = 2 * (1 << 28) + (1 << 14) + 1;
+    let among = [square, 7 * (1 << 28) + 65536, 9 << 28];
+    let due = [
+        Finding::Square { half: 1, start: 1 },
+        Finding::Window { start: 65536 },
+    ];
+    assert!(findings(&among).eq(due));
+}
+
+/// Each refusal of a pattern and a record, by list and count.
+#[test]
+fn refused_windows() {
+    let (long_pattern, long_record) = ([b'a'; LONGEST + 1], [b'a'; LONGEST_RECORD + 1]);
+    let table: [(&[u8], &[u8], Refusal); 5] = [
+        (&long_pattern, b"a", Refusal::TooLong),
+        (b"aBc", b"?", Refusal::NotALetter { position: 2 }),
+        (b"", &long_record, Refusal::PatternEmpty),
+        (b"a", &long_record, Refusal::RecordTooLong),
+        (b"a", b"aab?", Refusal::NotALetter { position: 4 }),
+    ];
+    for (pattern, record, due) in table {
+        assert_eq!(count_windows(pattern, record), Err(due));
+        assert_eq!(list_windows(pattern, record, &mut []), Err(due));
+    }
+    assert_eq!(list_windows(b"ab", b"a", &mut []), Ok(0));
+    let texts = [Refusal::PatternEmpty, Refusal::RecordTooLong].map(|x| x.to_string());
+    let due = [
+        "the pattern has no letter",
+        "the record has more than 65536 bytes",
+    ];
+    assert_eq!(texts, due);
+}
+
 #[test]
 fn refusals_have_their_numbers_and_values() {
     let table = [
@@ -260,6 +320,8 @@ fn refusals_have_their_numbers_and_values() {
         (Refusal::TrackerEmpty, 5, 0),
         (Refusal::TrackerDamaged, 6, 0),
         (Refusal::PairOutOfRange, 7, 0),
+        (Refusal::PatternEmpty, 8, 0),
+        (Refusal::RecordTooLong, 9, 0),
     ];
     for (refusal, number, value) in table {
         assert_eq!((refusal.number(), refusal.value()), (number, value));

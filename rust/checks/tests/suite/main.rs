@@ -1,6 +1,6 @@
-//! Tests of the proved library against document 01 and the requests C-11 and C-12: outside vectors, marked words, and a second
-//! implementation on random words, damaged inputs and lists of tracker calls. The vectors are run on the second implementation as well.
-//! Seeds are fixed; a test that fails prints its word or its calls.
+//! Tests of the proved library against document 01 and the requests C-11, C-12 and C-13: outside vectors, marked words, and a second
+//! implementation on random words, patterns and records, damaged inputs and lists of tracker calls. The vectors are run on the second
+//! implementation as well. Seeds are fixed; a test that fails prints its word, its pattern and record, or its calls.
 #![forbid(unsafe_code)]
 mod counts;
 mod damaged;
@@ -16,3 +16,4 @@ mod reports;
 mod runs;
 mod support;
 mod vectors;
+mod windows;

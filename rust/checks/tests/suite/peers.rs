@@ -1,12 +1,16 @@
 //! The algorithms that the benchmarks compare with give the second implementation's answers.
 use crate::records::read_runs;
-use crate::support::{alphabets, lent, places_enough, seeded, shown};
+use crate::support::shown_windows;
+use crate::support::{alphabets, damage, lent, patterns_for, places_enough, seeded, shown};
 use checks::calls::{Answer, Calls};
 use checks::generator::{abba, alternating, fibonacci, TIMED_WORDS};
 use checks::peers::{add_in_place, list_brute_force, list_counting_anew, list_full_002};
-use checks::peers::{list_runs_003, list_select_based, list_sliding_windows, OnLine};
+use checks::peers::{count_windows_sliding, list_runs_003, list_select_based};
+use checks::peers::{
+    list_sliding_windows, list_windows_collected, list_windows_in_two_passes, OnLine,
+};
 use checks::reference::Reference;
-use luffbutton::{Fields, FIRST_LETTER, LONGEST};
+use luffbutton::{Fields, FIRST_LETTER, LETTERS, LONGEST, LONGEST_RECORD};
 
 type Peer = fn(&[u8], &mut [u32]) -> Answer;
 
@@ -86,6 +90,63 @@ fn lists_of_words_with_runs() {
     compare(&word);
     let listed = lent(places_enough(LONGEST), |out| list_runs_003(&word, out)).0;
     assert_eq!((listed.number, listed.written), (0, 2 * 5420));
+}
+
+fn compare_windows(pattern: &[u8], record: &[u8]) {
+    let _shown = shown_windows(pattern, record);
+    let counted = Reference.count_windows(pattern, record);
+    assert_eq!(count_windows_sliding(pattern, record), counted);
+    let needed = counted.written;
+    for places in [record.len(), needed, needed - needed.min(1)] {
+        let due = lent(places, |out| Reference.list_windows(pattern, record, out));
+        let collected = lent(places, |out| list_windows_collected(pattern, record, out));
+        assert_eq!(collected, due, "collected, {places} places");
+        let twice = lent(places, |out| {
+            list_windows_in_two_passes(pattern, record, out)
+        });
+        assert_eq!(twice, due, "in two passes, {places} places");
+    }
+}
+
+#[test]
+fn windows_of_random_patterns_and_records() {
+    let mut generator = seeded(102);
+    for n in (0..=40).chain([97, 240, 241, 1000]) {
+        for k in [1, 2, 3, 4, LETTERS] {
+            let record = generator.uniform(n, k);
+            for mut pattern in patterns_for(&record, k, &mut generator) {
+                compare_windows(&pattern, &record);
+                damage(&mut pattern, &mut generator);
+                compare_windows(&pattern, &record);
+            }
+            let mut damaged = record.clone();
+            damage(&mut damaged, &mut generator);
+            compare_windows(b"ab", &damaged);
+            compare_windows(b"", &damaged);
+        }
+    }
+}
+
+/// Patterns and records at the edges, and of the lengths that are timed.
+#[test]
+fn windows_of_long_patterns_and_records() {
+    let mut generator = seeded(103);
+    let letters = [FIRST_LETTER; LONGEST + 1];
+    let mut long = vec![FIRST_LETTER; LONGEST_RECORD + 1];
+    compare_windows(&letters, b"?");
+    compare_windows(&letters[1..], &long);
+    compare_windows(&letters[1..], &long[1..]);
+    compare_windows(&letters[..1], &long[1..]);
+    long[0] = b'?';
+    compare_windows(&letters[1..], &long);
+    for n in [1024, 16384, LONGEST_RECORD] {
+        for k in [2, LETTERS] {
+            let record = generator.uniform(n, k);
+            for m in [1, 8, LONGEST] {
+                compare_windows(&record[n / 2..n / 2 + m], &record);
+            }
+        }
+    }
 }
 
 #[test]

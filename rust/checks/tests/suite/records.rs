@@ -1,4 +1,4 @@
-//! Reads the records of tests/data/base.txt and of tests/data/runs.txt. Lines that begin with # say how they are written.
+//! Reads the records of base.txt, runs.txt and windows.txt in tests/data. Lines that begin with # say how they are written.
 use checks::calls::Answer;
 use checks::reference::{pairs, Pair, Run};
 use luffbutton::{Fields, Head, Period, BOARD, LONGEST};
@@ -6,6 +6,7 @@ use std::collections::HashMap;
 
 const TEXT: &str = include_str!("../data/base.txt");
 const RUNS: &str = include_str!("../data/runs.txt");
+const WINDOWS: &str = include_str!("../data/windows.txt");
 
 /// A word with everything that document 01 defines of it.
 pub struct WordRecord {
@@ -70,6 +71,13 @@ pub struct CallsRecord {
 pub struct RunsRecord {
     pub word: Vec<u8>,
     pub runs: Vec<Run>,
+}
+
+/// A pattern, a record and the starts of the pattern's windows in it.
+pub struct WindowsRecord {
+    pub pattern: Vec<u8>,
+    pub record: Vec<u8>,
+    pub starts: Vec<usize>,
 }
 
 /// All records of the file, by kind.
@@ -308,4 +316,23 @@ fn runs_record(line: &str) -> RunsRecord {
 pub fn read_runs() -> Vec<RunsRecord> {
     let lines = RUNS.lines().filter(|line| !line.starts_with('#'));
     lines.map(runs_record).collect()
+}
+
+fn windows_record(line: &'static str) -> WindowsRecord {
+    let (left, starts) = sides(line);
+    let left: Vec<&str> = left.split_whitespace().collect();
+    let ["windows", pattern, record] = left[..] else {
+        panic!("{line} has no pattern and record");
+    };
+    WindowsRecord {
+        pattern: word(pattern),
+        record: word(record),
+        starts,
+    }
+}
+
+/// Reads the file of windows.
+pub fn read_windows() -> Vec<WindowsRecord> {
+    let lines = WINDOWS.lines().filter(|line| !line.starts_with('#'));
+    lines.map(windows_record).collect()
 }

@@ -4,7 +4,7 @@ use checks::calls::{Answer, Calls};
 use checks::generator::Generator;
 use checks::library::Library;
 use checks::reference::{is_letter, pairs, Reference};
-use luffbutton::{Fields, LETTERS, MOST_FULL, MOST_REPORT};
+use luffbutton::{Fields, FIRST_LETTER, LETTERS, LONGEST, MOST_FULL, MOST_REPORT};
 
 /// The seed of every generator here; each test adds a number of its own.
 const SEED: u64 = 20_250_117;
@@ -32,6 +32,18 @@ pub fn shown(word: &[u8]) -> Shown {
         "word of {} letters: {}",
         word.len(),
         word.escape_ascii()
+    ))
+}
+
+/// To be held while a pattern is looked for in a record. Of a long record the first letters are shown.
+pub fn shown_windows(pattern: &[u8], record: &[u8]) -> Shown {
+    let letters = &record[..record.len().min(1000)];
+    Shown(format!(
+        "pattern of {} letters: {}\nrecord of {} letters: {}",
+        pattern.len(),
+        pattern.escape_ascii(),
+        record.len(),
+        letters.escape_ascii()
     ))
 }
 
@@ -92,6 +104,39 @@ pub fn not_a_letter(generator: &mut Generator) -> u8 {
             return byte;
         }
     }
+}
+
+/// Puts bytes that are no letters at one to four places, where there is a place.
+pub fn damage(bytes: &mut [u8], generator: &mut Generator) {
+    if bytes.is_empty() {
+        return;
+    }
+    for _ in 0..1 + generator.below(4) {
+        let at = generator.below(bytes.len());
+        bytes[at] = not_a_letter(generator);
+    }
+}
+
+/// Patterns for a record over the first k letters: one that has nothing to do with it; and, where it has letters, a part of it, the same
+/// shuffled, and that with one letter changed.
+pub fn patterns_for(record: &[u8], k: usize, generator: &mut Generator) -> Vec<Vec<u8>> {
+    let n = record.len();
+    let m = 1 + generator.below(LONGEST.min(n + 2));
+    let mut patterns = vec![generator.uniform(m, k)];
+    if n > 0 {
+        let short = generator.once_in(2);
+        let m = 1 + generator.below(n.min(if short { 8 } else { LONGEST }));
+        let from = generator.below(n - m + 1);
+        let part = record[from..from + m].to_vec();
+        let mut shuffled = part.clone();
+        generator.shuffle(&mut shuffled);
+        let mut changed = shuffled.clone();
+        let letter = &mut changed[generator.below(m)];
+        let next = (usize::from(*letter - FIRST_LETTER) + 1) % k.max(2);
+        *letter = FIRST_LETTER + next as u8;
+        patterns.extend([part, shuffled, changed]);
+    }
+    patterns
 }
 
 /// So many places, each with a value that is no output word and differs from its neighbours'.

@@ -130,10 +130,11 @@ pub const COUNTS: [WordCall; 7] = [
 ];
 
 /// Times a function for each of a call's words and each size.
-fn over_words(call: &str, time: impl Fn(&[u8]) -> Vec<f64>) -> Vec<(&'static str, Vec<Vec<f64>>)> {
+fn over_words(call: &str, time: impl Fn(&[u8]) -> Vec<f64>) -> Vec<(String, Vec<Vec<f64>>)> {
     let sizes = |word: Word| SIZES.iter().map(|&n| time(&word(n))).collect();
     let words = timed_words(call).into_iter();
-    words.map(|(name, word)| (name, sizes(word))).collect()
+    let timed = words.map(|(name, word)| (name.to_string(), sizes(word)));
+    timed.collect()
 }
 
 /// A slice for any list, with places enough that a report is not counted before it is written.

@@ -1,14 +1,16 @@
 //! Times the library's calls beside the papers' algorithms in plain Rust, on the same words in the same run.
 //!
 //!     bench [DOCS]
+//!     bench --windows
 //!
-//! prints the tables. With the folder DOCS it also writes them into DOCS/PERFORMANCE.md, between its two marks, and a picture to
-//! DOCS/performance.svg.
+//! The first prints the tables. With the folder DOCS it also writes them into DOCS/PERFORMANCE.md, between its two marks, and a picture to
+//! DOCS/performance.svg. The second times windows alone and prints their tables.
 #![forbid(unsafe_code)]
 
 mod contenders;
 mod picture;
 mod tables;
+mod windows;
 
 use checks::measure::{better, over_passes, Timed};
 use contenders::{time_adds, time_count, time_judge, time_trackers, time_word_call};
@@ -21,10 +23,16 @@ const BEGIN: &str = "<!-- tables: written by rust/checks/src/bin/bench -->";
 const END: &str = "<!-- end of tables -->";
 
 fn main() {
+    let argument = env::args().nth(1);
+    if argument.as_deref() == Some("--windows") {
+        let times = over_passes(windows::pass, |all, others| better(all, others));
+        print!("{}", tables::of_windows(&times));
+        return;
+    }
     let times = over_passes(pass, Times::better);
     let text = tables::markdown(&times);
     print!("{text}");
-    if let Some(docs) = env::args().nth(1) {
+    if let Some(docs) = argument {
         let docs = Path::new(&docs);
         fs::write(docs.join("performance.svg"), picture::svg(&times.calls))
             .expect("the picture is written");
@@ -34,11 +42,13 @@ fn main() {
     }
 }
 
-/// All times: those of the calls beside their peers, those of the counts beside their lists, and those of a full tracker's other calls.
+/// All times: those of the calls beside their peers, those of the counts beside their lists, those of a full tracker's other calls, and those
+/// of windows.
 pub struct Times {
     calls: Vec<Timed>,
     counts: Vec<Timed>,
     trackers: Trackers,
+    windows: Vec<Timed>,
 }
 
 impl Times {
@@ -48,6 +58,7 @@ impl Times {
             calls: better(self.calls, &other.calls),
             counts: better(self.counts, &other.counts),
             trackers: self.trackers.better(&other.trackers),
+            windows: better(self.windows, &other.windows),
         }
     }
 }
@@ -61,6 +72,7 @@ fn pass() -> Times {
         calls,
         counts: COUNTS.iter().map(time_count).collect(),
         trackers: time_trackers(),
+        windows: windows::pass(),
     }
 }
 

@@ -37,7 +37,7 @@ fn pass() -> Vec<Timed> {
 
 /// Times a call on each of its words.
 fn over_words(call: &'static str, time: impl Fn(&[u8]) -> Vec<f64>) -> Timed {
-    let timed = |(name, word): (&'static str, Word)| (name, vec![time(&word(LONGEST))]);
+    let timed = |(name, word): (&str, Word)| (name.to_string(), vec![time(&word(LONGEST))]);
     Timed {
         call,
         contenders: vec!["after", "before"],
