@@ -59,9 +59,9 @@
  * COUNTS. Each list call but luff_tracker_replay has a count beside it, luff_count_plain for luff_list_plain and so on, which says how many
  * words that call writes. It goes the same way as the list, but takes no places and writes nothing. It meets every refusal of the list but
  * 3. Where it is accepted, the list is accepted with as many places as it says or more, and with fewer it is refused with 3. So a caller
- * that allocates asks for the count and then makes the list. The list finds its words again, and a luff_report or a luff_list_windows with
- * just as many places counts again too, unless these are enough for every such list. Who can spare places enough (LUFF_MOST_..,
- * LUFF_BOUND_RUNS) need not ask.
+ * that allocates asks for the count and then makes the list. The list finds its words again, and a luff_report with just as many places
+ * counts again too, and so does a luff_list_windows of more than 2,048 words, unless these places are enough for every such list. Who can
+ * spare places enough (LUFF_MOST_.., LUFF_BOUND_RUNS) need not ask.
  *
  * WHAT A CALLER OWES. No pointer is NULL, also not that of an empty word or record or of no places: pass any address of the program's, such
  * as that of a variable of the pointer's type. A pointer leads to as many bytes or places as are said, aligned as its type asks. What a
@@ -86,13 +86,14 @@
  *     luff_tracker_add, n being the letters held    1.8 to 2.0
  *     luff_list_full                                1.0 to 1.3
  *     luff_find_cover                               1.0 to 1.1
- *     luff_list_windows                             about 1.0
+ *     luff_list_windows                             1.0
  *     luff_list_full_scaled, luff_judge             0.5 to 1.0
  *
- * A count took 0.2 to 1.0 times as long as its list on these words. A luff_tracker_list and a luff_tracker_count go through the entries of
- * the pairs in range for the letters held, about n * n / 4 of them. A luff_tracker_take_back goes through the whole board, and a
- * luff_tracker_fresh or luff_tracker_clear writes the whole tracker, whatever n is. The time of a luff_tracker_replay grows with the number
- * of its calls, each of which takes as long as an add at 240 letters at most, and one list comes behind them; that number has no bound.
+ * A count took 0.2 to 1.0 times as long as its list on these words and records. A luff_tracker_list and a luff_tracker_count go through
+ * the entries of the pairs in range for the letters held, about n * n / 4 of them. A luff_tracker_take_back goes through the whole board,
+ * and a luff_tracker_fresh or luff_tracker_clear writes the whole tracker, whatever n is. The time of a luff_tracker_replay grows with the
+ * number of its calls, each of which takes as long as an add at 240 letters at most, and one list comes behind them; that number has no
+ * bound.
  */
 #ifndef LUFFBUTTON_H
 #define LUFFBUTTON_H
@@ -149,7 +150,7 @@ extern "C" {
 #define LUFF_STACK_LIST_FULL_SCALED 4096
 #define LUFF_STACK_LIST_SQUARES 20480
 #define LUFF_STACK_LIST_RUNS 24576
-#define LUFF_STACK_LIST_WINDOWS 4096
+#define LUFF_STACK_LIST_WINDOWS 12288
 #define LUFF_STACK_FIND_COVER 4096
 #define LUFF_STACK_REPORT 32768
 #define LUFF_STACK_TRACKER 12288
@@ -334,7 +335,8 @@ struct luff_counted luff_count_report(const uint8_t *word, size_t n);
 /*
  * All windows of a pattern of m letters in a record of n, by rising start. A record with fewer letters than the pattern, the empty one too,
  * has none. From one start to the next one letter leaves and one joins, so that the time grows as m + n does. With fewer than n places the
- * windows are counted before they are written, which takes time; with n or more, as LUFF_MOST_WINDOWS always are, that is spared.
+ * windows are counted before they are written, and where there are more than 2,048 the record is gone through twice; with n places or more,
+ * as LUFF_MOST_WINDOWS always are, once.
  * Refusals, in this order: 1 and 2 of the pattern, 8, 9, 2 of the record, 3. Refusal 1 is never the record's. Whether a refusal 2 is the
  * pattern's, a call with 0 letters of the record tells: it meets the pattern's refusals alone.
  */
