@@ -10,18 +10,18 @@ use lib.ListN.{length}
 use lib.Dec.{T, eqb, ltb}
 use borrow.Author.Tests.{lt-ltb, le-ltb, ltb-true}
 use Rattle.abelian.specs.Lists.{pick, all}
-use Rattle.abelian.specs.Refusals.{numberOf, Condition, condition, firstHolding, aboveLongest, byteOutside, tooFewPlaces, wordRefusal, windowRefusal, trackerRefusal}
+use Rattle.abelian.specs.Refusals.{numberOf, Condition, condition, firstHolding, aboveLongest, byteOutside, tooFewPlaces, wordRefusal, windowConditions, windowRefusal, trackerRefusal}
 use Rattle.abelian.specs.Answers.{Answer, refusing, counting, unless}
 use Rattle.abelian.specs.Calls.{writingWords, listing, countWords, periodWords, fullWords, reportWords, plainListing, skippingListing, fullListing, scaledListing, squareListing, runListing, windowListing, reporting, periodCount, fullCount, squareCount, runCount, windowCount, reportCount}
 use Rattle.abelian.specs.Trials.{plainTrials, skippingTrials}
 use Rattle.abelian.specs.FullPeriods.{scale, scaledGap}
 use Rattle.abelian.specs.Squares.{squareWords}
 use Rattle.abelian.specs.Runs.{runWords}
-use Rattle.abelian.specs.Windows.{longestRecord, windowWords}
+use Rattle.abelian.specs.Windows.{windowWords}
 use Rattle.abelian.specs.Trackers.{damaged, stepUnless, openWords, trackerListing, trackerCount}
 use Rattle.abelian.specs.CountAndWrite.{WritesAsCounted}
 use Rattle.abelian.specs.declared.Refusal.{Refusal}
-use Rattle.abelian.specs.declared.Refusal.the-variants.{SliceTooShort, TrackerDamaged, PairOutOfRange, PatternEmpty, RecordTooLong}
+use Rattle.abelian.specs.declared.Refusal.the-variants.{SliceTooShort, TrackerDamaged, PairOutOfRange}
 use Rattle.abelian.specs.declared.Tracker.{Tracker}
 use Rattle.abelian.proofs.Tests.{decided, left, right}
 use Rattle.abelian.proofs.Refusals.{refusal-number}
@@ -129,15 +129,7 @@ module _ (w : List ℕ) where
 
 pub windows-as-counted : (pattern events : List ℕ) → WritesAsCounted (windowCount pattern events) (windowListing pattern events)
 unfolding windowCount windowListing windowRefusal firstHolding
-windows-as-counted pattern events =
-    conditions-as-counted (windowWords pattern events) 0 0 0
-    (aboveLongest pattern
-    ∷ byteOutside pattern
-    ∷ condition (eqb (length pattern) 0) PatternEmpty
-    ∷ condition (ltb longestRecord (length events)) RecordTooLong
-    ∷ byteOutside events
-    ∷ [])
-    tt
+windows-as-counted pattern events = conditions-as-counted (windowWords pattern events) 0 0 0 (windowConditions pattern events) tt
 
 -- ---- a tracker's list
 

@@ -2,7 +2,7 @@
 use Prim.Native.Nat.{ℕ}
 use mathlib.Core.Bool.{Bool, not}
 use mathlib.Core.Option.{Option, none, some}
-use mathlib.Core.List.{List, [], _∷_}
+use mathlib.Core.List.{List, [], _∷_, _++_}
 use lib.ListN.{length}
 use lib.Dec.{eqb, ltb}
 use Rattle.abelian.specs.Lists.{pick}
@@ -64,18 +64,20 @@ wordRefusal w outOfRange needed places =
     firstHolding (aboveLongest w ∷ byteOutside w ∷ condition outOfRange PairOutOfRange ∷ tooFewPlaces needed places ∷ [])
 
 -- C-13, on a pattern and a record: "The pattern is checked as a word first, then the record's letters, with 2 giving the position in whichever failed. 8 when the pattern is
--- empty, after the pattern's 2; 9 when the record is above 65,536 bytes, next and before the record's letters." So 1, 2, 8, 9, 2, 3, of a call that needs so many words of a
--- slice of so many places; and a record is no word, so that 1 is never given for it.
-unfoldable pub windowRefusal : List ℕ → List ℕ → ℕ → ℕ → Option Refusal
-windowRefusal pattern events needed places =
-    firstHolding
-    (aboveLongest pattern
+-- empty, after the pattern's 2; 9 when the record is above 65,536 bytes, next and before the record's letters." So 1, 2, 8, 9, 2; and a record is no word, so that 1 is never
+-- given for it.
+abbrev pub windowConditions : List ℕ → List ℕ → List Condition
+windowConditions pattern events =
+    aboveLongest pattern
     ∷ byteOutside pattern
     ∷ condition (eqb (length pattern) 0) PatternEmpty
     ∷ condition (ltb longestRecord (length events)) RecordTooLong
     ∷ byteOutside events
-    ∷ tooFewPlaces needed places
-    ∷ [])
+    ∷ []
+
+-- The same of a call that needs so many words of a slice of so many places: 3 comes last.
+unfoldable pub windowRefusal : List ℕ → List ℕ → ℕ → ℕ → Option Refusal
+windowRefusal pattern events needed places = firstHolding (windowConditions pattern events ++ (tooFewPlaces needed places ∷ []))
 
 -- "On a tracker: 6, 2, 4, 5, 3", of a call that meets these conditions or not, and needs so many words of a slice of so many places.
 unfoldable pub trackerRefusal : Bool → Bool → Bool → Bool → ℕ → ℕ → Option Refusal

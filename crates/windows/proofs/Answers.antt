@@ -12,7 +12,7 @@ use borrow.Author.Tests.{eq-eqb, eqb-false, ne-eqb, lt-ltb, le-ltb, ltb-false, n
 use Rattle.abelian.specs.Words.{alphabetSize, longest, firstOutside, ofLetters}
 use Rattle.abelian.specs.Output.{fill}
 use Rattle.abelian.specs.Windows.{longestRecord, windowWords}
-use Rattle.abelian.specs.Refusals.{Condition, condition, firstHolding, aboveLongest, byteOutside, tooFewPlaces, wordRefusal, windowRefusal}
+use Rattle.abelian.specs.Refusals.{Condition, condition, firstHolding, aboveLongest, byteOutside, tooFewPlaces, wordRefusal, windowConditions, windowRefusal}
 use Rattle.abelian.specs.Answers.{refusing, writing, counting}
 use Rattle.abelian.specs.Calls.{windowListing, windowCount}
 use Rattle.abelian.specs.declared.Refusal.{Refusal}
@@ -68,20 +68,16 @@ module _ (pattern events : List ℕ) where
 -- ---- from both alone to a call on them
 
 module _ (pattern events : List ℕ) where
-  -- the conditions but for the slice's
-  abbrev butForSlice : List Condition
-  butForSlice = ofWord pattern ++ ofBoth pattern events
-
   -- what is refused by itself is refused for the same reason by every call
   refused-anyway : {r : Refusal} → windowRefusal pattern events 0 0 ≡ some r → (needed places : ℕ) → windowRefusal pattern events needed places ≡ some r
   unfolding windowRefusal firstHolding
-  refused-anyway e needed places = holding-first butForSlice (tooFewPlaces needed places ∷ []) e
+  refused-anyway e needed places = holding-first (windowConditions pattern events) (tooFewPlaces needed places ∷ []) e
 
   module _ (accepted : windowRefusal pattern events 0 0 ≡ none) where
     -- what is accepted is refused for the slice alone
     for-slice : (needed places : ℕ) → windowRefusal pattern events needed places ≡ firstHolding (tooFewPlaces needed places ∷ [])
     unfolding windowRefusal firstHolding
-    for-slice needed places = holding-behind butForSlice (tooFewPlaces needed places ∷ []) accepted
+    for-slice needed places = holding-behind (windowConditions pattern events) (tooFewPlaces needed places ∷ []) accepted
 
     -- and may be taken
     pub readable : Readable pattern events

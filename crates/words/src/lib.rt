@@ -27,15 +27,15 @@ pub fn is_letter(byte: u8) -> bool
     FIRST_LETTER <= byte && (byte as usize) < (FIRST_LETTER as usize) + LETTERS
 }
 
-// Whether every byte is a letter. Every byte is looked at and the loop is not left, so that it becomes a few vector instructions: for long records, in the
-// crates above.
-pub fn all_letters(bytes: &[u8]) -> bool
-    ensures { λ r. ⌜ r ≡ ofLetters (now (bytes .entry)) ⌝ }
+// Whether the stretch is of letters alone. Every byte is looked at and the loop is not left, so that it becomes a few vector instructions: for long records, in
+// the crates above.
+pub fn all_letters(stretch: &[u8]) -> bool
+    ensures { λ r. ⌜ r ≡ ofLetters (now (stretch .entry)) ⌝ }
 {
     let mut all = true;
     let mut i = 0;
-    while i < bytes.len() {
-        all = all & is_letter(bytes[i]);
+    while i < stretch.len() {
+        all = all & is_letter(stretch[i]);
         i += 1;
     }
     all

@@ -16,10 +16,10 @@ use Rattle.words.proofs.all_letters.Statement.{statement}
 use Rattle.words.proofs.all_letters.Tie as tie
 
 abbrev Inv-loop : tie.InvT-loop
-Inv-loop bytes all₀ i₀ all i = (i ≤ length bytes) × (all ≡ ofLetters (take i bytes))
+Inv-loop stretch all₀ i₀ all i = (i ≤ length stretch) × (all ≡ ofLetters (take i stretch))
 
 abbrev μ-loop : tie.MeasureT-loop
-μ-loop bytes all₀ i₀ all i = length bytes - i
+μ-loop stretch all₀ i₀ all i = length stretch - i
 
 -- one byte more
 letters-more : (w : List ℕ) (i : ℕ) → i < length w → (ofLetters (take i w) && isLetter alphabetSize (getD w i 0)) ≡ ofLetters (take (i + 1) w)
@@ -50,13 +50,13 @@ loop-less c = search needs
 loop-again : tie.Need-loop-again Inv-loop μ-loop
 loop-again c =
     let at-loop = c .before .before .before in
-    let bytes = at-loop .before .before .args .bytes .now in
-    (omega arith, ap₂ _&&_ (at-loop .loop .inv .1) (c .is-letter .ensures) ∙ letters-more bytes (at-loop .loop .i) (omega arith))
+    let stretch = at-loop .before .before .args .stretch .now in
+    (omega arith, ap₂ _&&_ (at-loop .loop .inv .1) (c .is-letter .ensures) ∙ letters-more stretch (at-loop .loop .i) (omega arith))
 
 returns : tie.Need-returns Inv-loop μ-loop
 returns c =
     let at-loop = c .before in
-    at-loop .loop .inv .1 ∙ ap ofLetters (take-all (at-loop .loop .i) (at-loop .before .before .args .bytes .now) (omega arith))
+    at-loop .loop .inv .1 ∙ ap ofLetters (take-all (at-loop .loop .i) (at-loop .before .before .args .stretch .now) (omega arith))
 
 pub all-letters-spec : {M : Type 1} → statement M
 all-letters-spec =
