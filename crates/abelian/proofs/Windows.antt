@@ -1,16 +1,16 @@
 -- The list of anagram windows is right: a start is in it exactly where C-13 says, and for letters that is where the window is the pattern with its letters in some order. It
 -- rises, so that it has each start once.
-use mathlib.Core.Path.{_≡_, refl, sym, ap, subst, _∙_}
+use mathlib.Core.Path.{_≡_, refl, ap, subst, _∙_}
 use mathlib.Core.Logic.{_↔_, ⊎-elim}
 use mathlib.Core.Bool.{true, false}
-use mathlib.Core.List.{List, [], _∷_, _++_, map, List·Memᴰ, List·Memᴰ·head, List·Memᴰ·tail, List·Memᴰ·cases-cons, List·Memᴰ·append-cases, Memᴰ·append-left, Memᴰ·append-right, List·Memᴰ·not-nil}
+use mathlib.Core.List.{List, [], _∷_, _++_, List·Memᴰ, List·Memᴰ·head, List·Memᴰ·tail, List·Memᴰ·append-cases, Memᴰ·append-left, Memᴰ·append-right}
 use Prim.Native.Nat.{ℕ, suc, _+_, _-_, _*_, _^_, _≤_, _<_}
 use native.Mathlib.Omega.{arith}
-use lib.ListN.{length, length-append}
+use lib.ListN.{length}
 use lib.Dec.{T, eqb, eqb-refl}
-use borrow.Author.Tests.{eqb-true, ne-eqb}
-use Rattle.abelian.specs.Lists.{one, upFrom, same, keep, Ordered}
-use Rattle.abelian.specs.Words.{alphabetSize, letters, isLetter, ofLetters, count, vector, part}
+use borrow.Author.Tests.{eqb-true}
+use Rattle.abelian.specs.Lists.{one, upFrom, Ordered}
+use Rattle.abelian.specs.Words.{letters, ofLetters, count, vector, part}
 use Rattle.abelian.specs.Output.{windowWord}
 use Rattle.abelian.specs.Windows.{isWindow, windowStarts, windowWords, Window, Permutation, Anagram}
 use Rattle.abelian.proofs.Tests.{is-true, decided}

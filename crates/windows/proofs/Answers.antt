@@ -1,13 +1,13 @@
 -- Laws of the refusals and answers of a call on a pattern and a record. `check_both` finds the refusals but for the slice's, `windowRefusal pattern events 0 0`: a call that
 -- goes by it reads from these what its own answer is.
 use mathlib.Core.Path.{_≡_, _∙_}
-use mathlib.Core.Bool.{Bool, true, false, not}
+use mathlib.Core.Bool.{false}
 use mathlib.Core.Option.{none, some}
-use mathlib.Core.List.{List, [], _∷_, _++_}
+use mathlib.Core.List.{List, [], _∷_}
 use Prim.Native.Nat.{ℕ, _≤_, _<_}
 use native.Mathlib.Omega.{arith}
 use lib.ListN.{length}
-use lib.Dec.{T, eqb, ltb}
+use lib.Dec.{eqb, ltb}
 use borrow.Author.Tests.{eq-eqb, eqb-false, ne-eqb, lt-ltb, le-ltb, ltb-false, not-false}
 use Rattle.abelian.specs.Words.{alphabetSize, longest, firstOutside, ofLetters}
 use Rattle.abelian.specs.Output.{fill}

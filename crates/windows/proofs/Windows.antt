@@ -6,11 +6,11 @@ use mathlib.Core.List.{List, [], _∷_, _++_, map, map-append}
 use Prim.Native.Nat.{ℕ, suc, _+_, _-_, _%_, _^_, _≤_, _<_}
 use native.Mathlib.Numerals.{add-one}
 use native.Mathlib.Omega.{arith}
-use lib.ListN.{length, take, drop, getD, set, length-set, length-map, length-take, length-drop}
+use lib.ListN.{length, drop, getD, set, length-set, length-map, length-take, length-drop}
 use lib.Seq.{drop-cons, getD-drop, getD-set-same, getD-set-other}
 use lib.Dec.{T, eqb}
 use borrow.Author.Tests.{eq-eqb, eqb-true, eqb-false}
-use Rattle.abelian.specs.Lists.{one, pick, upFrom, put, keep, same}
+use Rattle.abelian.specs.Lists.{one, pick, upFrom, put, keep}
 use Rattle.abelian.specs.Words.{alphabetSize, firstLetter, longest, ofLetters, count, vector, part}
 use Rattle.abelian.specs.Output.{windowWord}
 use Rattle.abelian.specs.Windows.{isWindow, windowStarts, windowWords}

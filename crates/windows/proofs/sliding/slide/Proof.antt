@@ -2,13 +2,13 @@
 -- written. The measure is what is left of the record. Assumes nothing.
 use mathlib.Core.Path.{_≡_, refl, ap, ap₂, _∙_}
 use mathlib.Core.List.{List, []}
-use Prim.Native.Nat.{ℕ, _+_, _-_, _%_, _^_, _≤_, _<_}
+use Prim.Native.Nat.{ℕ, _+_, _-_, _≤_, _<_}
 use native.Mathlib.Omega.{arith}
-use lib.ListN.{length, take, getD, set, length-take}
+use lib.ListN.{length, getD, length-take}
 use lib.Dec.{eqb}
 use borrow.Author.Needs.{needs}
 use Rattle.abelian.specs.Words.{alphabetSize, firstLetter, vector, part}
-use Rattle.abelian.specs.Windows.{longestRecord, isWindow, windowWords}
+use Rattle.abelian.specs.Windows.{isWindow, windowWords}
 use Rattle.abelian.proofs.Counts.{letters-take}
 use Rattle.words.proofs.Vectors.{length-vector, letter-at}
 use Rattle.windows.specs.Excess.{excess, nonzero}
