@@ -472,6 +472,16 @@ fn long_records() {
     }
 }
 
+/// Around 2,048 windows: the library keeps the words of so many while it counts, and goes through a record with more of them twice.
+#[test]
+fn around_the_words_kept() {
+    for needed in 2046..=2051 {
+        let mut record = vec![FIRST_LETTER; needed];
+        record.extend([FIRST_LETTER + 1; 40]);
+        assert_eq!(compare(b"a", &record), needed);
+    }
+}
+
 /// Records in which the windows stand in groups: blocks of the pattern's letters shuffled, and letters between.
 #[test]
 fn records_made_of_shuffled_patterns() {
