@@ -86,7 +86,7 @@
  *     luff_tracker_add, n being the letters held    1.8 to 2.0
  *     luff_list_full                                1.0 to 1.3
  *     luff_find_cover                               1.0 to 1.1
- *     luff_list_windows                             1.0
+ *     luff_list_windows, n places or more           1.0
  *     luff_list_full_scaled, luff_judge             0.5 to 1.0
  *
  * A count took 0.2 to 1.0 times as long as its list on these words and records. A luff_tracker_list and a luff_tracker_count go through

@@ -10,7 +10,7 @@ use lib.ListN.{length}
 use lib.Dec.{T, eqb, ltb}
 use borrow.Author.Tests.{lt-ltb, le-ltb, ltb-true}
 use Rattle.abelian.specs.Lists.{pick, all}
-use Rattle.abelian.specs.Refusals.{numberOf, Condition, condition, firstHolding, aboveLongest, byteOutside, tooFewPlaces, wordRefusal, windowConditions, windowRefusal, trackerRefusal}
+use Rattle.abelian.specs.Refusals.{numberOf, Condition, firstHolding, tooFewPlaces, wordConditions, wordRefusal, windowConditions, windowRefusal, trackerRefusal}
 use Rattle.abelian.specs.Answers.{Answer, refusing, counting, unless}
 use Rattle.abelian.specs.Calls.{writingWords, listing, countWords, periodWords, fullWords, reportWords, plainListing, skippingListing, fullListing, scaledListing, squareListing, runListing, windowListing, reporting, periodCount, fullCount, squareCount, runCount, windowCount, reportCount}
 use Rattle.abelian.specs.Trials.{plainTrials, skippingTrials}
@@ -21,7 +21,7 @@ use Rattle.abelian.specs.Windows.{windowWords}
 use Rattle.abelian.specs.Trackers.{damaged, stepUnless, openWords, trackerListing, trackerCount}
 use Rattle.abelian.specs.CountAndWrite.{WritesAsCounted}
 use Rattle.abelian.specs.declared.Refusal.{Refusal}
-use Rattle.abelian.specs.declared.Refusal.the-variants.{SliceTooShort, TrackerDamaged, PairOutOfRange}
+use Rattle.abelian.specs.declared.Refusal.the-variants.{SliceTooShort, TrackerDamaged}
 use Rattle.abelian.specs.declared.Tracker.{Tracker}
 use Rattle.abelian.proofs.Tests.{decided, left, right}
 use Rattle.abelian.proofs.Refusals.{refusal-number}
@@ -93,8 +93,7 @@ module _ (ws : List ℕ) (trials s t : ℕ) where
 
 listing-as-counted : (w ws : List ℕ) (trials s t : ℕ) → WritesAsCounted (countWords w ws) (λ (out : List ℕ). listing w out ws trials s t)
 unfolding countWords listing wordRefusal firstHolding
-listing-as-counted w ws trials s t =
-    conditions-as-counted ws trials s t (aboveLongest w ∷ byteOutside w ∷ condition false PairOutOfRange ∷ []) tt
+listing-as-counted w ws trials s t = conditions-as-counted ws trials s t (wordConditions w false) tt
 
 module _ (w : List ℕ) where
   pub plain-as-counted : WritesAsCounted (periodCount w) (plainListing w)

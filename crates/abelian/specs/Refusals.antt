@@ -58,10 +58,13 @@ byteOutside w = condition (not (eqb (firstOutside alphabetSize w) 0)) (NotALette
 abbrev pub tooFewPlaces : ℕ → ℕ → Condition
 tooFewPlaces needed places = condition (ltb places needed) (SliceTooShort needed)
 
--- "Order on a word: 1, 2, 7, 3", of a call that has a pair out of range or not, and needs so many words of a slice of so many places.
+-- "Order on a word: 1, 2, 7, 3": the conditions of a call that has a pair out of range or not, but for 3.
+abbrev pub wordConditions : List ℕ → Bool → List Condition
+wordConditions w outOfRange = aboveLongest w ∷ byteOutside w ∷ condition outOfRange PairOutOfRange ∷ []
+
+-- The same of a call that needs so many words of a slice of so many places: 3 comes last.
 unfoldable pub wordRefusal : List ℕ → Bool → ℕ → ℕ → Option Refusal
-wordRefusal w outOfRange needed places =
-    firstHolding (aboveLongest w ∷ byteOutside w ∷ condition outOfRange PairOutOfRange ∷ tooFewPlaces needed places ∷ [])
+wordRefusal w outOfRange needed places = firstHolding (wordConditions w outOfRange ++ (tooFewPlaces needed places ∷ []))
 
 -- C-13, on a pattern and a record: "The pattern is checked as a word first, then the record's letters, with 2 giving the position in whichever failed. 8 when the pattern is
 -- empty, after the pattern's 2; 9 when the record is above 65,536 bytes, next and before the record's letters." So 1, 2, 8, 9, 2; and a record is no word, so that 1 is never
@@ -75,7 +78,7 @@ windowConditions pattern events =
     ∷ byteOutside events
     ∷ []
 
--- The same of a call that needs so many words of a slice of so many places: 3 comes last.
+-- And 3 comes last here too.
 unfoldable pub windowRefusal : List ℕ → List ℕ → ℕ → ℕ → Option Refusal
 windowRefusal pattern events needed places = firstHolding (windowConditions pattern events ++ (tooFewPlaces needed places ∷ []))
 

@@ -1,7 +1,7 @@
 -- Laws of a board whose entries are made anew, a row head by head and the board row by row; and of the entries that the tracker's add makes.
 use mathlib.Core.Path.{_≡_, refl, sym, ap, ap₂, _∙_}
-use mathlib.Core.Logic.{_⊎_, ⊎-elim, _≢_}
-use mathlib.Core.Bool.{Bool, true, false, not, _&&_, and-false}
+use mathlib.Core.Logic.{⊎-elim, _≢_}
+use mathlib.Core.Bool.{Bool, true, false, _&&_, and-false}
 use mathlib.Core.List.{List, [], _∷_, _++_, map, map-append}
 use Prim.Native.Nat.{ℕ, zero, suc, _+_, _-_, _*_, _≤_, _<_}
 use native.Mathlib.Omega.{arith}
@@ -9,7 +9,7 @@ use lib.ListN.{length, set, length-append}
 use lib.Seq.{set-getD}
 use lib.Dec.{T, eqb, ltb, leb}
 use borrow.Author.Tests.{eqb-true, eqb-false, eq-eqb, ne-eqb, lt-ltb, le-ltb, ltb-true, ltb-false, le-leb, lt-leb, leb-true, leb-false}
-use Rattle.abelian.specs.Lists.{pick, one, upFrom, put, keep, each}
+use Rattle.abelian.specs.Lists.{pick, one, upFrom, put, keep}
 use Rattle.abelian.specs.Words.{longest}
 use Rattle.abelian.specs.Periods.{Pair, pair, inRange, heads, row, pairs, isPeriod}
 use Rattle.abelian.specs.EndedLengths.{boardOf}

@@ -1,19 +1,18 @@
 -- Laws of the refusals of a call on a word. `check_word` finds those of the word alone, `wordRefusal w false 0 0`: a call that goes by its
 -- answer reads from these what its own refusal is.
-use mathlib.Core.Path.{_≡_, refl, sym}
-use mathlib.Core.Bool.{Bool, true, false, not}
+use mathlib.Core.Path.{_≡_, refl}
+use mathlib.Core.Bool.{Bool, true, false}
 use mathlib.Core.Option.{Option, none, some}
-use mathlib.Core.List.{List}
+use mathlib.Core.List.{List, [], _∷_}
 use Prim.Native.Nat.{ℕ, _≤_, _<_}
 use native.Mathlib.Omega.{arith}
 use lib.ListN.{length}
 use lib.Dec.{T, eqb, ltb, eqb→eq}
-use borrow.Author.Tests.{lt-ltb, le-ltb, ne-eqb, ltb-false}
+use borrow.Author.Tests.{lt-ltb, le-ltb, ne-eqb, ltb-false, not-false}
 use Rattle.abelian.proofs.Tests.{passes}
-use Rattle.abelian.proofs.Refusals.{some-none}
-use Rattle.abelian.specs.Lists.{pick}
+use Rattle.abelian.proofs.Refusals.{none-holds, holding-first}
 use Rattle.abelian.specs.Words.{alphabetSize, longest, firstOutside, ofLetters}
-use Rattle.abelian.specs.Refusals.{firstHolding, wordRefusal}
+use Rattle.abelian.specs.Refusals.{condition, firstHolding, aboveLongest, byteOutside, tooFewPlaces, wordRefusal}
 use Rattle.abelian.specs.Answers.{outcomeOf}
 use Rattle.abelian.specs.declared.Refusal.{Refusal}
 use Rattle.abelian.specs.declared.Refusal.the-variants.{TooLong, NotALetter, SliceTooShort, PairOutOfRange}
@@ -55,12 +54,9 @@ module _ (w : List ℕ) where
   -- the word alone has no refusal where the first two conditions fail
   conditions : wordRefusal w false 0 0 ≡ none → (ltb longest (length w) ≡ false) × (eqb (firstOutside alphabetSize w) 0 ≡ true)
   unfolding wordRefusal firstHolding
-  conditions e = go (ltb longest (length w)) (eqb (firstOutside alphabetSize w) 0) e
-    where
-      go : (long inside : Bool) → pick long (some TooLong) (pick (not inside) (some (NotALetter (firstOutside alphabetSize w))) none) ≡ none → (long ≡ false) × (inside ≡ true)
-      go true inside q = absurd (some-none q)
-      go false true q = (refl, refl)
-      go false false q = absurd (some-none q)
+  conditions e =
+      let long = none-holds (aboveLongest w) (byteOutside w ∷ []) e in
+      (long .0, not-false (eqb (firstOutside alphabetSize w) 0) (none-holds (byteOutside w) [] (long .1) .0))
 
   -- a word that is accepted is not too long
   pub accepted-length : wordRefusal w false 0 0 ≡ none → length w ≤ longest
@@ -79,13 +75,8 @@ module _ (w : List ℕ) where
   -- a word that is refused by itself is refused for the same reason by every call
   pub refused-anyway : {r : Refusal} → wordRefusal w false 0 0 ≡ some r → (outOfRange : Bool) (needed places : ℕ) → wordRefusal w outOfRange needed places ≡ some r
   unfolding wordRefusal firstHolding
-  refused-anyway {r} e outOfRange needed places = go (ltb longest (length w)) (not (eqb (firstOutside alphabetSize w) 0)) e
-    where
-      go : (long outside : Bool) → pick long (some TooLong) (pick outside (some (NotALetter (firstOutside alphabetSize w))) none) ≡ some r
-          → pick long (some TooLong) (pick outside (some (NotALetter (firstOutside alphabetSize w))) (pick outOfRange (some PairOutOfRange) (pick (ltb places needed) (some (SliceTooShort needed)) none))) ≡ some r
-      go true outside q = q
-      go false true q = q
-      go false false q = absurd (some-none (sym q))
+  refused-anyway e outOfRange needed places =
+      holding-first (aboveLongest w ∷ byteOutside w ∷ []) (condition outOfRange PairOutOfRange ∷ tooFewPlaces needed places ∷ []) e
 
   module _ (accepted : wordRefusal w false 0 0 ≡ none) where
     -- the word is accepted, and the pair is out of range

@@ -70,7 +70,8 @@ pub fn check_word(word: &[u8]) -> Outcome
     Outcome::Accepted
 }
 
-// How often each letter stands in the part, in letter order. A part of a word is short enough that each count fits a byte.
+// How often each letter stands in the part, in letter order. A part of a word is short enough that each count fits a byte. For
+// the crates above.
 pub fn count_letters(part: &[u8]) -> [u8; LETTERS]
     requires { ⌜ T (ofLetters (now part)) ⌝ }
     requires { ⌜ length (now part) ≤ longest ⌝ }
@@ -88,6 +89,7 @@ pub fn count_letters(part: &[u8]) -> [u8; LETTERS]
 
 // The counts of the letters in each prefix of the word: row i has those of the first i letters, and the rows behind the word's end
 // repeat those of the whole word. Each letter is read once, since a row is the one before it with one count more.
+// For the crates above.
 pub fn prefix_counts(word: &[u8]) -> [[u8; LETTERS]; ROWS]
     requires { ⌜ T (ofLetters (now word)) ⌝ }
     requires { ⌜ length (now word) ≤ longest ⌝ }
