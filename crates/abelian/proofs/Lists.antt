@@ -231,6 +231,27 @@ module _ (f : ℕ → Bool) where
       (λ (n : f x ≡ false). rw n (firstOf-append xs ys (λ k m. h k (List·Memᴰ·tail m))))
       (decided (f x))
 
+-- one of two numbers that are no larger than m
+pub pick-le : (b : Bool) {x y m : ℕ} → x ≤ m → y ≤ m → pick b x y ≤ m
+pick-le true p q = p
+pick-le false p q = q
+
+module _ (f : ℕ → Bool) where
+  -- of the numbers from a + 1 on, the first that passes is no larger than the last of them
+  pub firstOf-within : (a n : ℕ) → firstOf f (upFrom (suc a) n) ≤ a + n
+  firstOf-within a zero = omega arith
+  firstOf-within a (suc n) = pick-le (f (suc a)) (omega arith) (omega (arith, firstOf-within (suc a) n))
+
+  -- of the numbers from a on, the first that passes is no larger than any other that does
+  pub firstOf-least : (a n k : ℕ) → List·Memᴰ k (upFrom a n) → T (f k) → firstOf f (upFrom a n) ≤ k
+  firstOf-least a zero k m t = absurd (List·Memᴰ·not-nil m)
+  firstOf-least a (suc n) k m t =
+      ⊎-elim (λ (y : f a ≡ true). let b : (a ≤ k) × (k < a + suc n) = mem-upFrom a (suc n) m in rw y (b .0))
+      (λ (e : f a ≡ false).
+      rw e
+      (⊎-elim (λ (q : k ≡ a). absurd (fails (f a) e (subst (λ (j : ℕ). T (f j)) q t))) (λ i. firstOf-least (suc a) n k i t) (List·Memᴰ·cases-cons m)))
+      (decided (f a))
+
 -- tests that agree on a list find the same
 pub firstOf-agree : (f g : ℕ → Bool) (xs : List ℕ) → ((k : ℕ) → List·Memᴰ k xs → f k ≡ g k) → firstOf f xs ≡ firstOf g xs
 firstOf-agree f g [] h = refl

@@ -1,5 +1,5 @@
 -- Abelian covers (document 003).
-use Prim.Native.Nat.{ℕ, suc, _-_, _*_, _≤_}
+use Prim.Native.Nat.{ℕ, suc, _-_, _*_, _≤_, _<_}
 use mathlib.Core.Path.{_≡_}
 use mathlib.Core.Bool.{Bool, _&&_}
 use mathlib.Core.List.{List, List·Memᴰ}
@@ -37,10 +37,22 @@ pub record Cover (w : List ℕ) (intervals : List Interval) : Type 0 where
   pub equal : (i j : Interval) → List·Memᴰ i intervals → List·Memᴰ j intervals → vector (within w i) ≡ vector (within w j)
   pub holding : (k : ℕ) → 1 ≤ k → k ≤ length w → (i : Interval) × List·Memᴰ i intervals × Holds i k
 
+-- "A length m < n, 2m ≥ n, where the first m and the last m letters have equal vectors": the lengths among which document 01 leaves the answer
+-- free.
+pub record CoverLength (w : List ℕ) (m : ℕ) : Type 0 where
+  pub below : m < length w
+  pub half : length w ≤ 2 * m
+  pub equal : vector (take m w) ≡ vector (drop (length w - m) w)
+
+-- C-14's "the smallest length m among those that document 01 left free": one of these, and none of them is smaller.
+pub record SmallestCoverLength (w : List ℕ) (m : ℕ) : Type 0 where
+  pub isOne : CoverLength w m
+  pub least : (k : ℕ) → CoverLength w k → m ≤ k
+
 -- m is at least half the length, and the first m and the last m letters have equal vectors; where m < n, they are a cover
 unfoldable pub isCoverLength : List ℕ → ℕ → Bool
 isCoverLength w m = leb (length w) (2 * m) && same (vector (take m w)) (vector (drop (length w - m) w))
 
--- The cover length: the smallest such m < n, or 0 where there is none. Document 01 leaves free which m is answered.
+-- The cover length: the smallest such m < n, or 0 where there is none.
 unfoldable pub coverLength : List ℕ → ℕ
 coverLength w = firstOf (isCoverLength w) (upFrom 1 (length w - 1))

@@ -10,7 +10,7 @@ use lib.ListN.{length, take, drop}
 use lib.Dec.{T, eqb, leb, leb→le, le→leb}
 use Rattle.abelian.specs.Lists.{pick, upFrom, firstOf, same}
 use Rattle.abelian.specs.Words.{vector}
-use Rattle.abelian.specs.Covers.{isCoverLength, coverLength}
+use Rattle.abelian.specs.Covers.{CoverLength, isCoverLength, coverLength}
 use Rattle.abelian.proofs.Tests.{both, left, right, iff-equal}
 use Rattle.abelian.proofs.Lists.{same-equal, equal-same, mem-upFrom, upFrom-append, none-firstOf, firstOf-append}
 use Rattle.abelian.proofs.Counts.{count-take-drop, vector-counts, counts-vector}
@@ -26,11 +26,6 @@ ends-mirrored w j k e =
     counts-vector (take k w) (drop j w)
     (λ c m. omega (arith, vector-counts (take j w) (drop k w) e c m, count-take-drop c j w, count-take-drop c k w))
 
--- m is at least half the length, and the first m and the last m letters have equal vectors
-pub record AtEnds (w : List ℕ) (m : ℕ) : Type 0 where
-  pub half : length w ≤ 2 * m
-  pub equal : vector (take m w) ≡ vector (drop (length w - m) w)
-
 module _ (w : List ℕ) (m : ℕ) where
   abbrev long : Bool
   long = leb (length w) (2 * m)
@@ -38,21 +33,22 @@ module _ (w : List ℕ) (m : ℕ) where
   abbrev alike : Bool
   alike = same (vector (take m w)) (vector (drop (length w - m) w))
 
-  -- what the test of a cover length says
-  pub cover-ends : T (isCoverLength w m) → AtEnds w m
+  -- below the word's length, what passes the test is a cover length
+  pub test-cover : m < length w → T (isCoverLength w m) → CoverLength w m
   unfolding isCoverLength
-  cover-ends t =
+  test-cover b t =
       record {
+        below = b;
         half = leb→le (length w) (2 * m) (left long alike t);
         equal = same-equal (vector (take m w)) (vector (drop (length w - m) w)) (right long alike t);
       }
 
-  -- and what passes it
-  pub ends-cover : AtEnds w m → T (isCoverLength w m)
+  -- and a cover length passes it
+  pub cover-test : CoverLength w m → T (isCoverLength w m)
   unfolding isCoverLength
-  ends-cover a =
-      both long alike (le→leb (length w) (2 * m) (a .half))
-      (equal-same (vector (take m w)) (vector (drop (length w - m) w)) (a .equal))
+  cover-test c =
+      both long alike (le→leb (length w) (2 * m) (c .half))
+      (equal-same (vector (take m w)) (vector (drop (length w - m) w)) (c .equal))
 
 -- ---- the search
 
@@ -68,14 +64,15 @@ module _ (w : List ℕ) where
 
   -- two parts that add up to the word, the first at least as long: its length is a cover length exactly where the ends that are as long
   -- as the second have equal vectors
-  pub mirrored-test : (j m : ℕ) → j + m ≡ length w → j ≤ m → isCoverLength w m ≡ same (vector (take j w)) (vector (drop m w))
-  mirrored-test j m e h =
+  pub mirrored-test : (j m : ℕ) → j + m ≡ length w → 1 ≤ j → j ≤ m → isCoverLength w m ≡ same (vector (take j w)) (vector (drop m w))
+  mirrored-test j m e p h =
       let q : length w - m ≡ j = omega arith in
+      let b : m < length w = omega arith in
       iff-equal (isCoverLength w m) (same (vector (take j w)) (vector (drop m w)))
-      (λ t. equal-same (vector (take j w)) (vector (drop m w)) (ends-mirrored w m j (rw q at (cover-ends w m t .equal))))
+      (λ t. equal-same (vector (take j w)) (vector (drop m w)) (ends-mirrored w m j (rw q at (test-cover w m b t .equal))))
       (λ t.
-      ends-cover w m
-      (record { half = omega arith; equal = rw q (ends-mirrored w j m (same-equal (vector (take j w)) (vector (drop m w)) t)) }))
+      cover-test w m
+      (record { below = b; half = omega arith; equal = rw q (ends-mirrored w j m (same-equal (vector (take j w)) (vector (drop m w)) t)) }))
 
   -- one letter more from each end: the smallest length is the first part's, where the ends do not differ, and else as before
   pub smallest-next : (j m differ : ℕ) → j + m ≡ length w → j + 1 < m → differ ≡ differing (vector (take (j + 1) w)) (vector (drop (m - 1) w))
@@ -84,7 +81,7 @@ module _ (w : List ℕ) where
       let s : suc (m - 1) ≡ m = omega arith in
       let n : length (vector (take (j + 1) w)) ≡ length (vector (drop (m - 1) w)) = length-vector (take (j + 1) w) ∙ sym (length-vector (drop (m - 1) w)) in
       let test : isCoverLength w (m - 1) ≡ eqb differ 0 =
-      mirrored-test (j + 1) (m - 1) (omega arith) (omega arith)
+      mirrored-test (j + 1) (m - 1) (omega arith) (omega arith) (omega arith)
       ∙ sym (differing-none (vector (take (j + 1) w)) (vector (drop (m - 1) w)) n)
       ∙ ap (λ (k : ℕ). eqb k 0) (sym d) in
       rw (add-one j, smallest-more (m - 1) j, test, s)
@@ -101,7 +98,7 @@ module _ (w : List ℕ) where
       let o : 1 + m ≡ suc m = omega arith in
       let none : firstOf (isCoverLength w) (upFrom 1 m) ≡ 0 =
       none-firstOf (isCoverLength w) (upFrom 1 m)
-      (λ k i t. omega (arith, mem-upFrom 1 m i, cover-ends w k t .half)) in
+      (λ k i t. let b : (1 ≤ k) × (k < 1 + m) = mem-upFrom 1 m i in omega (arith, test-cover w k (omega arith) t .half)) in
       let parts : firstOf (isCoverLength w) (upFrom 1 m ++ upFrom (suc m) j)
       ≡ pick (eqb (firstOf (isCoverLength w) (upFrom 1 m)) 0) (firstOf (isCoverLength w) (upFrom (suc m) j)) (firstOf (isCoverLength w) (upFrom 1 m)) =
       firstOf-append (isCoverLength w) (upFrom 1 m) (upFrom (suc m) j) (λ k i. mem-upFrom 1 m i .0) in

@@ -1,5 +1,6 @@
 -- Document 003's Lemma 4, on the definition of a cover, for words of letters: a cover length is the length of a cover of two intervals, and
--- where there is none, no intervals are a cover, however many they are and however they overlap.
+-- where there is none, no intervals are a cover, however many they are and however they overlap. And C-14's promise: of the lengths that
+-- document 01 leaves free the smallest is answered.
 use mathlib.Core.Path.{_≡_, refl, sym, ap, subst, _∙_}
 use mathlib.Core.Bool.{true, false}
 use mathlib.Core.Logic.{_≢_, _↔_, ⊎-elim}
@@ -10,41 +11,55 @@ use native.Mathlib.Omega.{arith}
 use lib.ListN.{length, take, drop, length-drop}
 use lib.Seq.{take-all, length-take-le}
 use lib.Dec.{T, eqb, leb}
-use borrow.Author.Tests.{eqb-true, eqb-false, leb-true, leb-false}
+use borrow.Author.Tests.{eqb-true, eqb-false, ne-eqb, leb-true, leb-false}
 use Rattle.abelian.specs.Lists.{upFrom}
 use Rattle.abelian.specs.Words.{ofLetters, vector}
-use Rattle.abelian.specs.Covers.{Interval, within, Proper, Holds, Cover, isCoverLength, coverLength}
+use Rattle.abelian.specs.Covers.{Interval, within, Proper, Holds, Cover, CoverLength, SmallestCoverLength, isCoverLength, coverLength}
 use Rattle.abelian.specs.Refusals.{wordRefusal}
 use Rattle.abelian.specs.Answers.{Answer, deciding}
 use Rattle.abelian.specs.Calls.{noneOrLength, coverAnswer}
 use Rattle.abelian.proofs.Tests.{decided}
-use Rattle.abelian.proofs.Lists.{mem-upFrom, upFrom-mem, firstOf-found, firstOf-none}
+use Rattle.abelian.proofs.Lists.{mem-upFrom, upFrom-mem, firstOf-found, firstOf-none, firstOf-within, firstOf-least}
 use Rattle.abelian.proofs.Counts.{letters-take, letters-drop, vector-length}
 use Rattle.words.proofs.Refusals.{accepted-letters}
-use Rattle.covers.proofs.CoverLengths.{AtEnds, cover-ends, ends-cover, ends-mirrored}
+use Rattle.covers.proofs.CoverLengths.{test-cover, cover-test, ends-mirrored}
 
 -- ---- the lengths
 
--- a length below the word's, at least half of it, of which the first and the last letters have equal vectors
-pub record CoverLength (w : List ℕ) (m : ℕ) : Type 0 where
-  pub below : m < length w
-  pub ends : AtEnds w m
-
 module _ (w : List ℕ) where
-  -- the cover length is such a length
+  -- the cover length is one of those that document 01 leaves free
   pub coverLength-is : coverLength w ≢ 0 → CoverLength w (coverLength w)
   unfolding coverLength
   coverLength-is h =
       let f : List·Memᴰ (coverLength w) (upFrom 1 (length w - 1)) × T (isCoverLength w (coverLength w)) = firstOf-found (isCoverLength w) (upFrom 1 (length w - 1)) h in
-      record { below = omega (arith, mem-upFrom 1 (length w - 1) (f .0)); ends = cover-ends w (coverLength w) (f .1) }
+      test-cover w (coverLength w) (omega (arith, mem-upFrom 1 (length w - 1) (f .0))) (f .1)
 
-  -- where the cover length is 0 there is no such length
+  -- each of them is among the lengths that are tried
+  among-tried : (m : ℕ) → CoverLength w m → List·Memᴰ m (upFrom 1 (length w - 1))
+  among-tried m c = upFrom-mem 1 (length w - 1) m (omega (arith, c .below, c .half)) (omega (arith, c .below))
+
+  -- where the cover length is 0 there is none of them
   pub coverLength-none : coverLength w ≡ 0 → (m : ℕ) → CoverLength w m → ⊥
   unfolding coverLength
   coverLength-none e m c =
-      let half : length w ≤ 2 * m = c .ends .half in
-      firstOf-none (isCoverLength w) (upFrom 1 (length w - 1)) (λ k i. mem-upFrom 1 (length w - 1) i .0) e m
-      (upFrom-mem 1 (length w - 1) m (omega (arith, c .below)) (omega (arith, c .below))) (ends-cover w m (c .ends))
+      firstOf-none (isCoverLength w) (upFrom 1 (length w - 1)) (λ k i. mem-upFrom 1 (length w - 1) i .0) e m (among-tried m c) (cover-test w m c)
+
+  -- and else it is the smallest of them
+  pub coverLength-smallest : coverLength w ≢ 0 → SmallestCoverLength w (coverLength w)
+  unfolding coverLength
+  coverLength-smallest h =
+      record { isOne = coverLength-is h; least = λ k c. firstOf-least (isCoverLength w) 1 (length w - 1) k (among-tried k c) (cover-test w k c) }
+
+  -- no other length is
+  pub smallest-coverLength : (m : ℕ) → SmallestCoverLength w m → coverLength w ≡ m
+  smallest-coverLength m s =
+      let some : coverLength w ≢ 0 = λ z. coverLength-none z m (s .isOne) in
+      omega (arith, coverLength-smallest some .least m (s .isOne), s .least (coverLength w) (coverLength-is some))
+
+  -- it is no larger than the word's length
+  pub coverLength-le-length : coverLength w ≤ length w
+  unfolding coverLength
+  coverLength-le-length = omega (arith, firstOf-within (isCoverLength w) 0 (length w - 1))
 
   -- a word of fewer than two letters has none
   pub short-none : length w < 2 → coverLength w ≡ 0
@@ -87,11 +102,11 @@ module _ (w : List ℕ) (m : ℕ) (c : CoverLength w m) where
 
   first-proper : Proper (length w) (firstInterval m)
   unfolding firstInterval
-  first-proper = record { starts = omega arith; ordered = omega (arith, c .below, c .ends .half); ends = omega (arith, c .below); notWhole = λ a b. omega (arith, c .below) }
+  first-proper = record { starts = omega arith; ordered = omega (arith, c .below, c .half); ends = omega (arith, c .below); notWhole = λ a b. omega (arith, c .below) }
 
   last-proper : Proper (length w) (lastInterval (length w) m)
   unfolding lastInterval
-  last-proper = record { starts = omega arith; ordered = omega (arith, c .below, c .ends .half); ends = omega arith; notWhole = λ a b. omega (arith, c .below) }
+  last-proper = record { starts = omega arith; ordered = omega (arith, c .below, c .half); ends = omega arith; notWhole = λ a b. omega (arith, c .below) }
 
   -- both have the vector of the first m letters
   alike : (i : Interval) → List·Memᴰ i both → vector (within w i) ≡ vector (take m w)
@@ -102,13 +117,13 @@ module _ (w : List ℕ) (m : ℕ) (c : CoverLength w m) where
       holds-first w (firstInterval m) first-proper (record { above = omega arith; below = first-proper .ordered }) in
       let l : within w (lastInterval (length w) m) ≡ drop (suc (length w - m) - 1) w =
       holds-last w (lastInterval (length w) m) last-proper (record { above = last-proper .ordered; below = omega arith }) in
-      by-cases (λ (i : Interval). vector (within w i) ≡ vector (take m w)) (ap vector f) (ap vector (rw s at l) ∙ sym (c .ends .equal))
+      by-cases (λ (i : Interval). vector (within w i) ≡ vector (take m w)) (ap vector f) (ap vector (rw s at l) ∙ sym (c .equal))
 
   -- the first m and the last m positions are a cover
   pub two-intervals : Cover w (firstInterval m ∷ lastInterval (length w) m ∷ [])
   unfolding firstInterval lastInterval
   two-intervals =
-      let half : length w ≤ 2 * m = c .ends .half in
+      let half : length w ≤ 2 * m = c .half in
       let below : m < length w = c .below in
       record {
         long = omega arith;
@@ -130,11 +145,11 @@ module _ (w : List ℕ) (m : ℕ) (c : CoverLength w m) where
 pub ends-length : (w : List ℕ) (m : ℕ) → 1 ≤ m → m < length w → vector (take m w) ≡ vector (drop (length w - m) w) → (k : ℕ) × CoverLength w k
 ends-length w m p l e =
     ⊎-elim
-    (λ (h : leb (length w) (2 * m) ≡ true). (m, record { below = l; ends = record { half = leb-true (length w) (2 * m) h; equal = e } }))
+    (λ (h : leb (length w) (2 * m) ≡ true). (m, record { below = l; half = leb-true (length w) (2 * m) h; equal = e }))
     (λ (h : leb (length w) (2 * m) ≡ false).
     let s : 2 * m < length w = leb-false (length w) (2 * m) h in
     let q : length w - (length w - m) ≡ m = omega arith in
-    (length w - m, record { below = omega arith; ends = record { half = omega arith; equal = rw q (ends-mirrored w m (length w - m) e) } }))
+    (length w - m, record { below = omega arith; half = omega arith; equal = rw q (ends-mirrored w m (length w - m) e) }))
     (decided (leb (length w) (2 * m)))
 
 -- two intervals with equal vectors that hold the first and the last position have the same length, and are the ends of a cover length: they themselves where they meet or overlap,
@@ -159,12 +174,28 @@ cover-length w t is c =
 
 -- ---- Lemma 4
 
--- none is answered for the length 0 alone
-none-zero : (m : ℕ) → noneOrLength m ≡ deciding 0 0 0 0 → m ≡ 0
+-- the length among the answer's numbers, which is 0 where none is answered
+cover-of : (m : ℕ) → noneOrLength m .cover ≡ m
 unfolding noneOrLength
-none-zero m h =
-    ⊎-elim (eqb-true m 0)
-    (λ (e : eqb m 0 ≡ false). let q : deciding 1 0 0 m ≡ deciding 0 0 0 0 = rw e at h in ap (λ (a : Answer). a .cover) q) (decided (eqb m 0))
+cover-of m = ⊎-elim (λ (e : eqb m 0 ≡ true). rw e (sym (eqb-true m 0 e))) (λ (e : eqb m 0 ≡ false). rw e) (decided (eqb m 0))
+
+-- so none is answered for the length 0 alone
+none-zero : (m : ℕ) → noneOrLength m ≡ deciding 0 0 0 0 → m ≡ 0
+none-zero m h = sym (cover-of m) ∙ ap (λ (a : Answer). a .cover) h
+
+-- and a length for itself alone, where it is not 0
+some-length : (k m : ℕ) → noneOrLength k ≡ deciding 1 0 0 m → (k ≢ 0) × (k ≡ m)
+unfolding noneOrLength
+some-length k m h = (
+  λ z.
+      let q : noneOrLength 0 ≡ deciding 1 0 0 m = subst (λ (j : ℕ). noneOrLength j ≡ deciding 1 0 0 m) z h in
+      omega (arith, ap (λ (a : Answer). a .yes) q),
+  sym (cover-of k) ∙ ap (λ (a : Answer). a .cover) h,
+)
+
+length-some : (m : ℕ) → m ≢ 0 → noneOrLength m ≡ deciding 1 0 0 m
+unfolding noneOrLength
+length-some m n = rw (ne-eqb m 0 n)
 
 module _ (w : List ℕ) where
   -- a cover length that is not 0 is that of a cover: the first and the last letters of that length
@@ -194,4 +225,18 @@ module _ (w : List ℕ) where
   answer-none e = (
     λ q. zero-no-cover (accepted-letters w e) (none-zero (coverLength w) (rw e at q)),
     λ h. rw (e, no-cover-zero h),
+  )
+
+  -- the length among its numbers is the cover length
+  pub answer-cover : wordRefusal w false 0 0 ≡ none → coverAnswer w .cover ≡ coverLength w
+  unfolding coverAnswer
+  answer-cover e = rw e (cover-of (coverLength w))
+
+  -- C-14: the answer is yes with the length m exactly where m is the smallest of those that document 01 leaves free
+  pub answer-smallest : wordRefusal w false 0 0 ≡ none → (m : ℕ) → (coverAnswer w ≡ deciding 1 0 0 m) ↔ SmallestCoverLength w m
+  unfolding coverAnswer
+  answer-smallest e m = (
+    λ q. let f : (coverLength w ≢ 0) × (coverLength w ≡ m) = some-length (coverLength w) m (rw e at q) in
+        subst (SmallestCoverLength w) (f .1) (coverLength-smallest w (f .0)),
+    λ s. rw (e, smallest-coverLength w m s) (length-some m (λ z. omega (arith, s .isOne .below, s .isOne .half))),
   )

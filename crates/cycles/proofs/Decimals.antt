@@ -1,6 +1,6 @@
 -- Numbers in decimal: the digits that the kit's `io::decimal` writes are those of the definition, and a number of 14 bits has at most five.
 use mathlib.Core.Path.{_≡_, refl, sym, ap, _∙_}
-use mathlib.Core.Bool.{Bool, true, false}
+use mathlib.Core.Bool.{Bool, true}
 use mathlib.Core.List.{_∷_, []}
 use Prim.Native.Nat.{ℕ, zero, suc, _+_, _-_, _/_, _%_, _^_, _≤_, _<_}
 use native.Mathlib.Nat.{pow-le-pow-right}
@@ -10,8 +10,8 @@ use lib.ListN.{length, length-append}
 use lib.Dec.{T, ltb, ltb→lt}
 use borrow.Author.Tests.{lt-ltb}
 use Rattle.io.specs.Digits.{glyph, digits, Fewest}
-use Rattle.abelian.specs.Lists.{pick, upFrom, firstOf}
-use Rattle.abelian.proofs.Lists.{mem-upFrom, upFrom-append, none-firstOf, firstOf-append}
+use Rattle.abelian.specs.Lists.{upFrom, firstOf}
+use Rattle.abelian.proofs.Lists.{mem-upFrom, upFrom-append, none-firstOf, firstOf-append, pick-le, firstOf-within}
 use Rattle.cycles.specs.Text.{places, decimal}
 
 length-digits : (b k n : ℕ) → length (digits b k n) ≡ k
@@ -50,20 +50,12 @@ digits-decimal n k h f =
     (λ j p b t. let most : 10 ^ j ≤ 10 ^ (k - 1) = pow-le-pow-right (omega arith) (omega arith) in omega (arith, ltb→lt n (10 ^ j) t, f .2 (omega arith))) in
     ap (λ (j : ℕ). digits 10 j n) (sym (rw e at least))
 
-pick-le : (b : Bool) {x y m : ℕ} → x ≤ m → y ≤ m → pick b x y ≤ m
-pick-le true p q = p
-pick-le false p q = q
-
 -- a number below 2^14 has at most five digits
 pub few-places : (n : ℕ) → n < 2 ^ 14 → places n ≤ 5
 unfolding places
 few-places n h =
     rw (lt-ltb n 100000 (omega arith))
     (pick-le (ltb n 10) (omega arith) (pick-le (ltb n 100) (omega arith) (pick-le (ltb n 1000) (omega arith) (pick-le (ltb n 10000) (omega arith) (omega arith)))))
-
-firstOf-within : (f : ℕ → Bool) (a n : ℕ) → firstOf f (upFrom (suc a) n) ≤ a + n
-firstOf-within f a zero = omega arith
-firstOf-within f a (suc n) = pick-le (f (suc a)) (omega arith) (omega (arith, firstOf-within f (suc a) n))
 
 -- no number has more than twenty
 pub most-places : (n : ℕ) → places n ≤ 20
