@@ -109,7 +109,7 @@ extern "C" {
 #endif
 
 /* The version of this interface. It rises with each change of an answer or of a layout, and with each function that joins. */
-#define LUFF_VERSION 5
+#define LUFF_VERSION 6
 
 /* The byte of the first letter, a, and how many letters there are. */
 #define LUFF_FIRST_LETTER 97
@@ -189,7 +189,7 @@ enum luff_refusal {
  *   LUFF_KIND_SQUARE   upper: half length    lower: start
  *   LUFF_KIND_FULL     upper: full period p  lower: n / p
  *   LUFF_KIND_RUN      upper: d              lower: i
- *   LUFF_KIND_REPORT   upper: n              lower: 1 where a cover exists, else 0
+ *   LUFF_KIND_REPORT   upper: n              lower: the length that luff_find_cover answers, 0 where there is no cover
  *
  * A run is two words, one of LUFF_KIND_RUN and behind it one of LUFF_KIND_HANDS. The second has three numbers below its kind: j in 12 bits,
  * then the lengths of the left hand and of the right hand in 8 bits each. LUFF_WORD_KIND and the three macros LUFF_RUN_.. read it;

@@ -195,6 +195,7 @@ int main(void)
     find_cover("aBc");
     report("abb", PLACES);
     report("abb", 4);
+    report("abba", PLACES);
     count("abaababa");
     count("aBc");
     list_windows("ab", "abbaab", PLACES);

@@ -1,6 +1,7 @@
 pub mod Tests
 pub mod Lists
 pub mod Counts
+pub mod Output
 pub mod Pairs
 pub mod Definition1
 pub mod Largest

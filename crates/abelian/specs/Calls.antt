@@ -3,8 +3,8 @@ use Prim.Native.Nat.{ℕ}
 use mathlib.Core.Bool.{false, not}
 use mathlib.Core.List.{List, [], _∷_, _++_, map}
 use lib.ListN.{length}
-use lib.Dec.{eqb, ltb}
-use Rattle.abelian.specs.Lists.{pick, one}
+use lib.Dec.{eqb}
+use Rattle.abelian.specs.Lists.{pick}
 use Rattle.abelian.specs.Periods.{Pair, inRange, periods}
 use Rattle.abelian.specs.Output.{periodWord, fullWord, reportHead, fill}
 use Rattle.abelian.specs.Trials.{plainTrials, skippingTrials}
@@ -95,13 +95,13 @@ windowCount pattern events = unless (windowRefusal pattern events 0 0) [] (count
 unfoldable pub noneOrLength : ℕ → Answer
 noneOrLength m = pick (eqb m 0) (deciding 0 0 0 0) (deciding 1 0 0 m)
 
--- "Cover": refusals 1, 2, else a length or none.
+-- "Cover": refusals 1, 2, else the smallest length (C-14) or none.
 unfoldable pub coverAnswer : List ℕ → Answer
 coverAnswer w = unless (wordRefusal w false 0 0) [] (noneOrLength (coverLength w))
 
--- "Report": one word of kind 8, then full periods, periods, squares; and the number of these words.
+-- "Report": one word of kind 8, which carries the cover length (C-14), then full periods, periods, squares; and the number of these words.
 unfoldable pub reportWords : List ℕ → List ℕ
-reportWords w = reportHead (length w) (one (ltb 0 (coverLength w))) ∷ (fullWords w ++ (periodWords w ++ squareWords w))
+reportWords w = reportHead (length w) (coverLength w) ∷ (fullWords w ++ (periodWords w ++ squareWords w))
 
 unfoldable pub reporting : List ℕ → List ℕ → Answer
 reporting w out = listing w out (reportWords w) 0 0 0

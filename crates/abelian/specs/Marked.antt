@@ -1,7 +1,7 @@
 -- The marked words: document 01's P1 to P11, more rows for clauses that these leave untried, and the rows of document 02's requests. Each row is
 -- tried by the definitions alone.
 use Prim.Native.Nat.{ℕ, suc, _+_, _-_}
-use mathlib.Core.Bool.{Bool, false, _&&_, _||_}
+use mathlib.Core.Bool.{Bool, _&&_}
 use mathlib.Core.List.{List, [], _∷_, map}
 use lib.ListN.{length, take, replicate}
 use lib.Dec.{eqb, ltb}
@@ -34,8 +34,8 @@ pub data Row : Type 0 where
   runsAre : List ℕ → List Run → Row
   -- the starts of a pattern's windows in a record
   windowsAre : List ℕ → List ℕ → List ℕ → Row
-  -- the lengths of which the answered cover's is one; no cover where there is none
-  coverIsOneOf : List ℕ → List ℕ → Row
+  -- the cover's length; no cover where it is 0
+  coverIs : List ℕ → ℕ → Row
   -- s and T
   scaledBy : List ℕ → ℕ → ℕ → Row
   -- the trials of the plain and of the skipping lister
@@ -63,11 +63,6 @@ pub data Row : Type 0 where
 unfoldable pub entryOf : Pair → List ℕ → ℕ
 entryOf x board = largest (entries (λ (y : Pair) (e : ℕ). pick (eqb (periodWord y) (periodWord x)) e 0) (pairs longest) board)
 
--- no cover, where the list is empty, and else one of its lengths
-unfoldable pub isOneOf : ℕ → List ℕ → Bool
-isOneOf m [] = eqb m 0
-isOneOf m (x ∷ xs) = eqb m x || pick (eqb m 0) false (isOneOf m xs)
-
 -- all numbers of an answer
 unfoldable pub numbers : Answer → List ℕ
 numbers a =
@@ -82,10 +77,6 @@ unfoldable pub refusal : ℕ → ℕ → List ℕ → Answer
 refusal number value out =
     record { number = number; value = value; written = 0; trials = 0; s = 0; t = 0; yes = 0; block = 0; letter = 0; cover = 0; output = out }
 
--- the answer is no, where the list is empty, and else yes with one of its lengths
-unfoldable pub answersOneOf : Answer → List ℕ → Bool
-answersOneOf x ms = isOneOf (x .cover) ms && sameAnswer x (deciding (one (ltb 0 (length ms))) 0 0 (x .cover))
-
 -- what the row says is so by the definitions
 unfoldable pub rowHolds : Row → Bool
 rowHolds (periodsAre w xs) = same (periodWords w) (map periodWord xs)
@@ -93,7 +84,7 @@ rowHolds (fullAre w ps) = same (fullPeriods w) ps
 rowHolds (squaresAre w ws) = same (squareWords w) ws
 rowHolds (runsAre w rs) = same (runWords w) (each rs wordsOfRun)
 rowHolds (windowsAre pattern events starts) = same (windowWords pattern events) (map windowWord starts)
-rowHolds (coverIsOneOf w ms) = answersOneOf (coverAnswer w) ms
+rowHolds (coverIs w m) = sameAnswer (coverAnswer w) (deciding (one (ltb 0 m)) 0 0 m)
 rowHolds (scaledBy w s t) = eqb (scale w) s && eqb (scaledGap w) t
 rowHolds (trialsAre w plain skipping) = eqb (plainTrials w) plain && eqb (skippingTrials w) skipping
 rowHolds (endsAt w x m) = eqb (endedLength w x) m
@@ -150,7 +141,7 @@ back t = takingBack t .tracker
 abbrev given : Tracker
 given = then (then (then freshTracker a) b) b
 
--- P1 to P11 of document 01.
+-- P1 to P11 of document 01; of the two cover lengths that P5 leaves free, C-14 takes 2.
 unfoldable pub marked : List Row
 marked =
     -- P1, P2, P3, P4
@@ -159,16 +150,16 @@ marked =
     ∷ periodsAre (a ∷ a ∷ []) (pair 0 1 ∷ pair 0 2 ∷ [])
     ∷ fullAre (a ∷ a ∷ []) (1 ∷ 2 ∷ [])
     ∷ periodsAre (a ∷ b ∷ []) (pair 0 2 ∷ [])
-    ∷ coverIsOneOf (a ∷ b ∷ []) []
+    ∷ coverIs (a ∷ b ∷ []) 0
     -- P5
     ∷ periodsAre abba (pair 0 2 ∷ pair 0 3 ∷ pair 1 3 ∷ pair 0 4 ∷ [])
     ∷ squaresAre abba (squareWord 1 2 ∷ squareWord 2 1 ∷ [])
-    ∷ coverIsOneOf abba (2 ∷ 3 ∷ [])
+    ∷ coverIs abba 2
     ∷ scaledBy abba 2 1
     -- P6, P7
     ∷ fullAre (a ∷ a ∷ b ∷ b ∷ []) (4 ∷ [])
     ∷ scaledBy (a ∷ a ∷ b ∷ b ∷ []) 2 2
-    ∷ coverIsOneOf (a ∷ a ∷ a ∷ b ∷ []) []
+    ∷ coverIs (a ∷ a ∷ a ∷ b ∷ []) 0
     -- P8
     ∷ periodsAre abaababa
     (pair 1 2 ∷ pair 0 3 ∷ pair 2 3 ∷ pair 1 4 ∷ pair 2 4 ∷ pair 3 4 ∷ pair 0 5 ∷ pair 1 5 ∷ pair 2 5 ∷ pair 3 5
@@ -228,7 +219,7 @@ more =
     ∷ refuses (takingBack freshTracker .answer) 5 0 []
     ∷ refuses (trackerListing given (5 ∷ []) .answer) 3 2 (5 ∷ [])
     -- the edges: the longest word, the first and the last letter, and the bytes beside them
-    ∷ coverIsOneOf (replicate 240 a) (120 ∷ [])
+    ∷ coverIs (replicate 240 a) 120
     ∷ judgedYes ((beyond - 1) ∷ a ∷ []) (pair 0 2)
     ∷ refuses (coverAnswer (96 ∷ [])) 2 1 []
     ∷ refuses (coverAnswer (a ∷ beyond ∷ [])) 2 2 []
@@ -249,6 +240,10 @@ abab = a ∷ b ∷ a ∷ b ∷ []
 
 abbrev ababa : List ℕ
 ababa = a ∷ b ∷ a ∷ b ∷ a ∷ []
+
+-- the word of which C-14's rows have the report
+abbrev abbaba : List ℕ
+abbaba = a ∷ b ∷ b ∷ a ∷ b ∷ a ∷ []
 
 -- the record of C-13's rows, and one that is a letter too long
 abbrev abbaab : List ℕ
@@ -313,4 +308,20 @@ requested =
     ∷ refuses (windowCount (a ∷ []) (B ∷ replicate 65535 a)) 2 1 []
     ∷ refuses (windowCount abb (B ∷ [])) 2 1 []
     ∷ refuses (windowListing (a ∷ []) (a ∷ a ∷ B ∷ B ∷ []) (5 ∷ [])) 2 3 (5 ∷ [])
+    -- C-14: of 4 and 5 the smaller, where 3 is none; of 3 and 5 the smaller, though 4 is none; no length of aba is below 2, and none of abaab is 4
+    ∷ coverIs abbaba 4
+    ∷ coverIs (a ∷ a ∷ b ∷ a ∷ b ∷ a ∷ []) 3
+    ∷ coverIs (a ∷ b ∷ a ∷ []) 2
+    ∷ coverIs (a ∷ b ∷ a ∷ a ∷ b ∷ []) 3
+    -- none where the word has fewer than two letters, two that differ, or a last letter that stands nowhere else
+    ∷ coverIs [] 0
+    ∷ coverIs (a ∷ []) 0
+    ∷ coverIs (c ∷ (beyond - 1) ∷ []) 0
+    ∷ coverIs (a ∷ a ∷ a ∷ a ∷ b ∷ []) 0
+    -- the report's head has that length; that of the empty word is the whole report
+    ∷ reportIs abba (2147549186 ∷ 805339138 ∷ 805371905 ∷ 268468224 ∷ 268484608 ∷ 268484609 ∷ 268500992 ∷ 536887298 ∷ 536903681 ∷ [])
+    ∷ reportIs abbaba
+    (2147581956 ∷ 805339139 ∷ 805404673 ∷ 268468224 ∷ 268484609 ∷ 268484610 ∷ 268500992 ∷ 268500993 ∷ 268500994 ∷ 268517376 ∷ 268517377
+    ∷ 268533760 ∷ 536887298 ∷ 536903681 ∷ 536903683 ∷ [])
+    ∷ reportIs [] (2147483648 ∷ [])
     ∷ []

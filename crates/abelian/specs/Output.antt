@@ -32,9 +32,9 @@ handsWord j left right = 6 * 2 ^ 28 + j * 2 ^ 16 + left * 2 ^ 8 + right
 unfoldable pub windowWord : ℕ → ℕ
 windowWord start = 7 * 2 ^ 28 + start
 
--- "8 report head": n above, and below 1 if a cover exists, else 0.
+-- "8 report head": n above, and below the cover length, or 0 where there is none (C-14).
 unfoldable pub reportHead : ℕ → ℕ → ℕ
-reportHead n covered = outputWord 8 n covered
+reportHead n m = outputWord 8 n m
 
 -- An accepted list fills the first places and keeps the rest of the slice.
 unfoldable pub fill : List ℕ → List ℕ → List ℕ

@@ -115,7 +115,7 @@ pub enum Needed {
     Refused(Refusal),
 }
 
-// What the search for a cover answers: a length, or that there is no cover.
+// What the search for a cover answers: the smallest cover length, or that there is no cover.
 pub enum Covered {
     Length(usize),
     Nothing,

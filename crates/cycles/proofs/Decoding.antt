@@ -1,13 +1,11 @@
 -- The text of a report is document 01's lines: each word is read as it was made.
 use mathlib.Core.Path.{_≡_, refl, ap₂, _∙_}
-use mathlib.Core.Bool.{Bool, true, false}
 use mathlib.Core.List.{List, [], _∷_, _++_, map, append-assoc, List·Memᴰ, List·Memᴰ·head, List·Memᴰ·tail}
-use Prim.Native.Nat.{ℕ, suc, _+_, _-_, _*_, _/_, _%_, _^_, _≤_, _<_}
+use Prim.Native.Nat.{ℕ, suc, _+_, _-_, _*_, _/_, _^_, _≤_, _<_}
 use native.Mathlib.Nat.{div-le-self}
 use native.Mathlib.Omega.{arith}
 use lib.ListN.{length}
-use lib.Dec.{eqb, ltb}
-use Rattle.abelian.specs.Lists.{one, upFrom, each}
+use Rattle.abelian.specs.Lists.{upFrom, each}
 use Rattle.abelian.specs.Words.{longest}
 use Rattle.abelian.specs.Periods.{isPeriod, pairs, periods}
 use Rattle.abelian.specs.Output.{outputWord, periodWord, squareWord, fullWord, reportHead}
@@ -16,29 +14,18 @@ use Rattle.abelian.specs.Squares.{isSquare, squareStarts, squareWords}
 use Rattle.abelian.specs.Covers.{coverLength}
 use Rattle.abelian.specs.Calls.{periodWords, fullWords, reportWords}
 use Rattle.abelian.proofs.Lists.{mem-keep, mem-upFrom, each-append}
+use Rattle.abelian.proofs.Output.{kind-read, upper-read, lower-read}
 use Rattle.abelian.proofs.Pairs.{InRange, in-range, pairs-in-range}
+use Rattle.report.proofs.Heads.{lower-fits, head-lower}
 use Rattle.cycles.specs.Lines.{lengthLine, fullLine, periodLine, squareLine, acceptedLines}
 use Rattle.cycles.specs.Reports.{kindLine, lineOf, textOf}
 
 -- ---- one word
 
-module _ (kind upper lower : ℕ) (u : upper < 2 ^ 14) (l : lower < 2 ^ 14) where
-  kind-read : outputWord kind upper lower / 2 ^ 28 ≡ kind
-  unfolding outputWord
-  kind-read = omega arith
-
-  upper-read : outputWord kind upper lower / 2 ^ 14 % 2 ^ 14 ≡ upper
-  unfolding outputWord
-  upper-read = omega arith
-
-  lower-read : outputWord kind upper lower % 2 ^ 14 ≡ lower
-  unfolding outputWord
-  lower-read = omega arith
-
-  -- a word's line is that of its kind and parts
-  line-read : lineOf (outputWord kind upper lower) ≡ kindLine kind upper lower
-  unfolding lineOf
-  line-read = rw (kind-read, upper-read, lower-read)
+-- a word's line is that of its kind and parts
+line-read : (kind upper lower : ℕ) → upper < 2 ^ 14 → lower < 2 ^ 14 → lineOf (outputWord kind upper lower) ≡ kindLine kind upper lower
+unfolding lineOf
+line-read kind upper lower u l = rw (kind-read kind upper lower u l, upper-read kind upper lower u l, lower-read kind upper lower u l)
 
 -- ---- the words of a list
 
@@ -53,14 +40,6 @@ module _ {A : Type 0} (f : ℕ → List ℕ) where
   each-each g h [] e = refl
   each-each g h (x ∷ xs) e =
       each-append f (g x) (each xs g) ∙ ap₂ (λ (a b : List ℕ). a ++ b) (e x (List·Memᴰ·head refl)) (each-each g h xs (λ y m. e y (List·Memᴰ·tail m)))
-
-one-read : (b : Bool) → eqb (one b) 1 ≡ b
-one-read true = refl
-one-read false = refl
-
-one-small : (b : Bool) → one b < 2 ^ 14
-one-small true = omega arith
-one-small false = omega arith
 
 module _ (w : List ℕ) (short : length w ≤ longest) where
   full-lines : each (fullWords w) lineOf ≡ each (fullPeriods w) fullLine
@@ -86,15 +65,11 @@ module _ (w : List ℕ) (short : length w ≤ longest) where
       let b : (1 ≤ i) × (i < 1 + starts) = mem-upFrom 1 starts (mem-keep (isSquare w q) (upFrom 1 starts) m .0) in
       line-read 2 q i (omega (arith, mem-upFrom 1 (length w) n)) (omega arith)))
 
-  head-line : lineOf (reportHead (length w) (one (ltb 0 (coverLength w)))) ≡ lengthLine (length w)
+  head-line : lineOf (reportHead (length w) (coverLength w)) ≡ lengthLine (length w)
   unfolding longest reportHead kindLine
-  head-line = line-read 8 (length w) (one (ltb 0 (coverLength w))) (omega arith) (one-small (ltb 0 (coverLength w)))
-
-  cover-read : eqb (reportHead (length w) (one (ltb 0 (coverLength w))) % 2 ^ 14) 1 ≡ ltb 0 (coverLength w)
-  unfolding longest reportHead
-  cover-read = rw (lower-read 8 (length w) (one (ltb 0 (coverLength w))) (omega arith) (one-small (ltb 0 (coverLength w)))) (one-read (ltb 0 (coverLength w)))
+  head-line = line-read 8 (length w) (coverLength w) (omega arith) (lower-fits w short)
 
   -- The text of a word's report is its lines.
   pub text-accepted : textOf (reportWords w) ≡ acceptedLines w
   unfolding textOf reportWords acceptedLines
-  text-accepted = rw (each-append, each-append, head-line, full-lines, period-lines, square-lines, cover-read) (simp append-assoc)
+  text-accepted = rw (each-append, each-append, head-line, full-lines, period-lines, square-lines, head-lower w short) (simp append-assoc)

@@ -6,7 +6,7 @@ use Prim.Native.Nat.{ℕ, suc, _+_, _*_, _/_, _%_, _^_, _≤_, _<_}
 use native.Mathlib.Nat.{suc-mul, mul-le-mul-right}
 use native.Mathlib.Omega.{arith}
 use lib.ListN.{length, getD, length-append}
-use lib.Dec.{eqb}
+use lib.Dec.{eqb, ltb}
 use Rattle.abelian.specs.Lists.{pick, each}
 use Rattle.abelian.specs.Words.{longest}
 use Rattle.abelian.specs.Trackers.{boardSize}
@@ -83,7 +83,7 @@ lines-short (x ∷ xs) = omega (arith, length-append (lineOf x) (each xs lineOf)
 pub text-short : (words : List ℕ) → length words ≤ longestReport → length (textOf words) ≤ longestText
 unfolding textOf longestText
 text-short words h =
-    let found : Bool = eqb (getD words 0 0 % 2 ^ 14) 1 in
+    let found : Bool = ltb 0 (getD words 0 0 % 2 ^ 14) in
     let most : length words * longestLine ≤ longestReport * longestLine = mul-le-mul-right longestLine h in
     omega (arith, length-append (each words lineOf) (coverLine found), lines-short words, cover-short found, suc-mul longestReport longestLine)
 

@@ -2,7 +2,7 @@
 use Prim.Native.Nat.{ℕ, suc, _*_, _/_, _%_, _^_}
 use mathlib.Core.List.{List, [], _++_}
 use lib.ListN.{getD}
-use lib.Dec.{eqb}
+use lib.Dec.{eqb, ltb}
 use Rattle.abelian.specs.Lists.{pick, each}
 use Rattle.abelian.specs.Periods.{pair}
 use Rattle.report.specs.Places.{longestReport}
@@ -18,9 +18,9 @@ kindLine kind upper lower =
 unfoldable pub lineOf : ℕ → List ℕ
 lineOf word = kindLine (word / 2 ^ 28) (word / 2 ^ 14 % 2 ^ 14) (word % 2 ^ 14)
 
--- the text of a report: a line for each word, and behind them the cover, which the report's head tells
+-- the text of a report: a line for each word, and behind them the cover, yes where the report's head has a length
 unfoldable pub textOf : List ℕ → List ℕ
-textOf words = each words lineOf ++ coverLine (eqb (getD words 0 0 % 2 ^ 14) 1)
+textOf words = each words lineOf ++ coverLine (ltb 0 (getD words 0 0 % 2 ^ 14))
 
 -- no line of an output word is longer: a name of 6 letters, two numbers of 5 digits, and what stands between and behind them
 unfoldable pub longestLine : ℕ

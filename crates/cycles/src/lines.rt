@@ -122,12 +122,13 @@ fn write_cover(found: bool, text: &mut [u8]) -> usize
     }
 }
 
-// Writes the text of a report: the lines of its words, and behind them that of the cover, which the first word tells.
+// Writes the text of a report: the lines of its words, and behind them that of the cover. The first word has the cover's length, or 0 where
+// there is none.
 pub(crate) fn write_report(words: &[u32], text: &mut [u8]) -> usize
     requires { ⌜ 1 ≤ length (now words) ⌝ }
     requires { ⌜ length (textOf (now words)) ≤ length (now text) ⌝ }
     ensures { λ r. ⌜ Written (textOf (now (words .entry))) (now (text .entry)) (now (text .exit)) r ⌝ }
 {
     let at = write_words(words, text);
-    at + write_cover(words[0] % UPPER == 1, &mut text[at..])
+    at + write_cover(0 < words[0] % UPPER, &mut text[at..])
 }

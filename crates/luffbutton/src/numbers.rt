@@ -59,7 +59,7 @@ pub struct LuffCounted {
     pub words: usize,
 }
 
-// What the search for a cover answers. `yes` is 1 where there is one, and `length` is then its length.
+// What the search for a cover answers. `yes` is 1 where there is one, and `length` is then the smallest cover length.
 #[repr(C)]
 pub struct LuffCover {
     pub refusal: usize,

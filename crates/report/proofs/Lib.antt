@@ -1,3 +1,5 @@
--- The laws of the report: how many words it has, and what a list call leaves that is lent the places behind the words before.
+-- The laws of the report: how many words it has, what its head tells, and what a list call leaves that is lent the places behind the words
+-- before.
 pub mod Lengths
+pub mod Heads
 pub mod Lending

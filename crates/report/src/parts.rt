@@ -11,9 +11,8 @@ use squares::list_squares;
 use squares::number_of_squares;
 ghost use mathlib.Core.Path.{_≡_};
 ghost use Prim.Native.Nat.{_≤_};
-ghost use lib.Dec.{T, ltb};
+ghost use lib.Dec.{T};
 ghost use lib.ListN.{length};
-ghost use Rattle.abelian.specs.Lists.{one};
 ghost use Rattle.abelian.specs.Words.{longest, ofLetters};
 ghost use Rattle.abelian.specs.Covers.{coverLength};
 ghost use Rattle.abelian.specs.Output.{reportHead, fill};
@@ -25,18 +24,14 @@ const HEAD: u32 = 8 * 268435456;
 // What one of the upper part counts.
 const UPPER: u32 = 16384;
 
-// The report's head: n above, and below 1 if a cover exists, else 0.
+// The report's head: n above, and below the cover length, or 0 where there is none.
 fn head_word(word: &[u8]) -> u32
     requires { ⌜ T (ofLetters (now word)) ⌝ }
     requires { ⌜ length (now word) ≤ longest ⌝ }
-    ensures { λ r. ⌜ r ≡ reportHead (length (now (word .entry))) (one (ltb 0 (coverLength (now (word .entry))))) ⌝ }
+    ensures { λ r. ⌜ r ≡ reportHead (length (now (word .entry))) (coverLength (now (word .entry))) ⌝ }
 {
-    let head = HEAD + (word.len() as u32) * UPPER;
-    if cover_length(word) == 0 {
-        head
-    } else {
-        head + 1
-    }
+    let cover = cover_length(word) as u32;
+    HEAD + (word.len() as u32) * UPPER + cover
 }
 
 // The number of words of the report.

@@ -23,7 +23,7 @@ pub struct Answer {
     pub block: usize,
     /// The letter's byte of the judge's first failure.
     pub letter: usize,
-    /// The length of a cover.
+    /// The smallest cover length, 0 where no cover exists.
     pub cover: usize,
     /// The calls that a replay saw refused.
     pub refused: usize,
@@ -48,8 +48,8 @@ impl Answer {
     }
 }
 
-/// The calls of document 01 and of the requests C-11, C-12 and C-13 with all their numbers, so that one test can be run on the library and
-/// on a second implementation.
+/// The calls of document 01 and of the requests C-11 to C-14 with all their numbers, so that one test can be run on the library and on a
+/// second implementation.
 /// A list call writes to `out`; a tracker call but `list` and `count` changes the fields.
 pub trait Calls {
     fn judge(&self, word: &[u8], head: Head, period: Period) -> Answer;

@@ -1,5 +1,6 @@
 //! What the words of a list say.
 use crate::vocabulary::{Head, Period};
+use crate::words::Cover;
 
 /// What a word of a list says.
 #[derive(Clone, Copy, Debug, PartialEq, Eq)]
@@ -34,8 +35,8 @@ pub enum Finding {
     ReportHead {
         /// The word's length.
         length: usize,
-        /// Whether a cover exists.
-        cover: bool,
+        /// What [`find_cover`](crate::find_cover) answers of the word.
+        cover: Cover,
     },
 }
 
@@ -64,7 +65,10 @@ impl Finding {
             }),
             8 => Some(Finding::ReportHead {
                 length: upper,
-                cover: lower == 1,
+                cover: match lower {
+                    0 => Cover::Nothing,
+                    m => Cover::Length(m),
+                },
             }),
             _ => None,
         }

@@ -97,7 +97,7 @@ pub struct Cover {
     pub value: usize,
     /// 1 where a cover exists.
     pub yes: usize,
-    /// The length of the cover's intervals.
+    /// The length of the cover's two intervals, the smallest that is possible; 0 where no cover exists.
     pub length: usize,
 }
 

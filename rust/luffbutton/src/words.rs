@@ -17,7 +17,7 @@ pub enum Verdict {
     },
 }
 
-/// What the search for a cover finds.
+/// What the search for a cover finds. A report's head says it too.
 #[derive(Clone, Copy, Debug, PartialEq, Eq)]
 pub enum Cover {
     /// The smallest m below n, 2m at least n, at which the first m and the last m letters have equal counts; these two cover the word.
@@ -113,8 +113,18 @@ pub fn list_runs(word: &[u8], out: &mut [u32]) -> Result<usize, Refusal> {
     written(numbers::list_runs(word, out))
 }
 
-/// Writes a report, which is its head, full periods, periods and squares, and returns how many words: refusals 1, 2, 3. A slice of
-/// [`MOST_REPORT`](crate::MOST_REPORT) places or more is never too short, so that the report is not counted before it is written.
+/// Writes a report, which is its head, full periods, periods and squares, and returns how many words: refusals 1, 2, 3. The head says the
+/// word's length and the [`Cover`] that [`find_cover`] answers. A slice of [`MOST_REPORT`](crate::MOST_REPORT) places or more is never too
+/// short, so that the report is not counted before it is written.
+///
+/// ```
+/// use luffbutton::{findings, report, Cover, Finding};
+///
+/// let mut out = [0; 16];
+/// let written = report(b"abba", &mut out).unwrap();
+/// let head = Finding::ReportHead { length: 4, cover: Cover::Length(2) };
+/// assert_eq!(findings(&out[..written]).next(), Some(head));
+/// ```
 pub fn report(word: &[u8], out: &mut [u32]) -> Result<usize, Refusal> {
     written(numbers::report(word, out))
 }
@@ -167,7 +177,7 @@ pub(crate) fn counted(answer: numbers::Counted) -> Result<usize, Refusal> {
     Ok(answer.words)
 }
 
-/// Looks for a cover: refusals 1, 2.
+/// Looks for a cover: refusals 1, 2. Where several lengths are possible, as 2 and 3 are for `abba`, the smallest is answered.
 pub fn find_cover(word: &[u8]) -> Result<Cover, Refusal> {
     let answer = numbers::find_cover(word);
     Refusal::check(answer.refusal, answer.value)?;

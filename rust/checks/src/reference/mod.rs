@@ -1,6 +1,6 @@
-//! A second implementation, written from document 01 and, for runs, counts and windows, from the requests C-11, C-12 and C-13 alone, in the
-//! plainest way: every block and every window is counted anew, every definition is tried word by word, and the tracker's machine is a list
-//! of letters. It shares no route with the library, which goes by prefix counts, boards and counts that slide.
+//! A second implementation, written from document 01 and, for runs, counts, windows and the cover length, from the requests C-11, C-12,
+//! C-13 and C-14 alone, in the plainest way: every block and every window is counted anew, every definition is tried word by word, and the
+//! tracker's machine is a list of letters. It shares no route with the library, which goes by prefix counts, boards and counts that slide.
 mod covers;
 mod full_periods;
 mod periods;
@@ -19,7 +19,7 @@ pub use windows::windows;
 pub use words::is_letter;
 
 use crate::calls::{Answer, Calls};
-use covers::has_cover;
+use covers::smallest_cover_length;
 use full_periods::{full_periods, scaled};
 use luffbutton::{Fields, Head, Period, LONGEST};
 use periods::{first_failure, plain_trials, skipping_trials};
@@ -55,9 +55,9 @@ fn run_words(word: &[u8]) -> Vec<u32> {
     runs(word).into_iter().flat_map(words_of).collect()
 }
 
-/// A report: its head, then full periods, periods and squares.
+/// A report: its head, with the word's length and its smallest cover length or 0, then full periods, periods and squares.
 fn report_words(word: &[u8]) -> Vec<u32> {
-    let mut words = vec![output_word(8, word.len(), usize::from(has_cover(word)))];
+    let mut words = vec![output_word(8, word.len(), smallest_cover_length(word))];
     words.extend(full_words(word));
     words.extend(period_words(&periods(word)));
     words.extend(square_words(word));
@@ -171,14 +171,10 @@ impl Calls for Reference {
         if let Some(refusal) = word_refusal(word) {
             return refusal;
         }
-        if !has_cover(word) {
-            return Answer::default();
-        }
-        // Document 01 leaves free which length is given; the library gives the smallest.
-        let smallest = cover_lengths(word).first().copied();
+        let cover = smallest_cover_length(word);
         Answer {
-            yes: 1,
-            cover: smallest.expect("a word with a cover has one of two intervals"),
+            yes: usize::from(cover > 0),
+            cover,
             ..Answer::default()
         }
     }

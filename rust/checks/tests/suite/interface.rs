@@ -7,7 +7,8 @@ use luffbutton::{count_full, count_full_scaled, count_plain, count_report, count
 use luffbutton::{count_skipping, count_squares, find_cover, findings, judge, list_full};
 use luffbutton::{count_windows, list_windows, runs, Cover, Finding, Head, Period, Refusal};
 use luffbutton::{list_full_scaled, list_plain, list_runs, list_skipping, list_squares, report};
-use luffbutton::{Run, Tracker, Verdict, BOARD, CLEAR, LONGEST, LONGEST_RECORD, TAKE_BACK};
+use luffbutton::{Run, Tracker, Verdict, BOARD, CLEAR, LETTERS, LONGEST, LONGEST_RECORD};
+use luffbutton::{MOST_REPORT, TAKE_BACK};
 use std::error::Error;
 use std::sync::Mutex;
 
@@ -146,7 +147,7 @@ fn findings_of_a_report() {
     let (answer, out) = lent(20, |out| Library.report(word, out));
     let mut due = vec![Finding::ReportHead {
         length: 4,
-        cover: true,
+        cover: Cover::Length(2),
     }];
     due.extend([(2, 2), (4, 1)].map(|(p, blocks)| Finding::Full {
         period: Period(p),
@@ -163,6 +164,38 @@ fn findings_of_a_report() {
     assert_eq!(Finding::of(0), None);
     assert_eq!(Finding::of(9 << 28), None);
     assert_eq!(findings(&[0, 9 << 28]).next(), None);
+}
+
+/// A report's first word, read.
+fn report_head(word: &[u8]) -> Option<Finding> {
+    let mut out = vec![0; MOST_REPORT];
+    assert!(report(word, &mut out).is_ok());
+    Finding::of(out[0])
+}
+
+/// A report's head has the very cover that is found, of words with a cover and without one.
+#[test]
+fn covers_of_report_heads() {
+    let mut generator = seeded(85);
+    let (mut covered, mut uncovered) = (0, 0);
+    for n in (1..=60).chain([239, LONGEST]) {
+        for k in [1, 2, 3, LETTERS] {
+            for word in [generator.uniform(n, k), generator.cyclic(n, k).0] {
+                let _shown = shown(&word);
+                let cover = find_cover(&word).expect("a word");
+                let due = Finding::ReportHead { length: n, cover };
+                assert_eq!(report_head(&word), Some(due));
+                match cover {
+                    Cover::Length(_) => covered += 1,
+                    Cover::Nothing => uncovered += 1,
+                }
+            }
+        }
+    }
+    assert!(covered > 100 && uncovered > 100, "{covered}, {uncovered}");
+    let (length, cover) = (3, Cover::Nothing);
+    let due = Finding::ReportHead { length, cover };
+    assert_eq!(report_head(b"abb"), Some(due));
 }
 
 /// The words of two runs of abaababa. The first is the one that request C-11 gives: d = 3 and i = 1, then j = 6 and the hands 0 and 2.

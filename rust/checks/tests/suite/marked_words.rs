@@ -1,4 +1,5 @@
-//! Document 01's marked words and edges, with the answers as it gives them, on the library and on the second implementation.
+//! Document 01's marked words and edges, with the answers as it gives them, and for covers as request C-14 does, on the library and on the
+//! second implementation.
 use crate::support::{filled, lent, marks, shown, tracked, LIST_CALLS};
 use checks::calls::{Answer, Calls};
 use checks::library::Library;
@@ -82,6 +83,15 @@ fn p1_to_p4_and_p7() {
     }
 }
 
+/// The answer of the search for a cover where it has this length.
+fn covered(length: usize) -> Answer {
+    Answer {
+        yes: 1,
+        cover: length,
+        ..Answer::default()
+    }
+}
+
 #[test]
 fn p5_and_p6() {
     for calls in both() {
@@ -90,12 +100,20 @@ fn p5_and_p6() {
             listed(|out| calls.list_squares(b"abba", out)).1,
             [(2, 1), (1, 2)]
         );
-        let cover = calls.find_cover(b"abba");
-        assert!(cover.yes == 1 && [2, 3].contains(&cover.cover));
+        assert_eq!(calls.find_cover(b"abba"), covered(2));
         assert_eq!(full(calls, b"abba"), (vec![2, 4], 2, 1));
         assert_eq!(full(calls, b"aabb"), (vec![4], 2, 2));
     }
     assert_eq!(cover_lengths(b"abba"), [2, 3]);
+}
+
+/// The smallest cover length of this word is neither half of its letters nor the greatest of its cover lengths.
+#[test]
+fn the_cover_of_abbaba() {
+    for calls in both() {
+        assert_eq!(calls.find_cover(b"abbaba"), covered(4));
+    }
+    assert_eq!(cover_lengths(b"abbaba"), [4, 5]);
 }
 
 #[test]
@@ -142,6 +160,7 @@ fn p11_take_back() {
     }
 }
 
+/// A word without a cover: 0 stands in the head.
 #[test]
 fn the_report_of_abb() {
     let due = [2147532800, 805355521, 268468224, 268484608, 536887298];
@@ -149,6 +168,20 @@ fn the_report_of_abb() {
         let (answer, out) = lent(6, |out| calls.report(b"abb", out));
         assert_eq!((answer.number, answer.written), (0, 5));
         assert_eq!(out, filled(&due, 6));
+    }
+}
+
+/// A word with a cover: its smallest cover length, 2, stands in the head.
+#[test]
+fn the_report_of_abba() {
+    let period = |(h, p): (u32, u32)| (1 << 28) + p * (1 << 14) + h;
+    let mut due = vec![2147549186, 805339138, 805371905];
+    due.extend([(0, 2), (0, 3), (1, 3), (0, 4)].map(period));
+    due.extend([536887298, 536903681]);
+    for calls in both() {
+        let (answer, out) = lent(10, |out| calls.report(b"abba", out));
+        assert_eq!(answer, Answer::of_words(9));
+        assert_eq!(out, filled(&due, 10));
     }
 }
 

@@ -1,4 +1,4 @@
-//! Reads the records of base.txt, runs.txt and windows.txt in tests/data. Lines that begin with # say how they are written.
+//! Reads the records of base.txt, runs.txt, windows.txt and reports.txt in tests/data. Lines that begin with # say how they are written.
 use checks::calls::Answer;
 use checks::reference::{pairs, Pair, Run};
 use luffbutton::{Fields, Head, Period, BOARD, LONGEST};
@@ -7,8 +7,9 @@ use std::collections::HashMap;
 const TEXT: &str = include_str!("../data/base.txt");
 const RUNS: &str = include_str!("../data/runs.txt");
 const WINDOWS: &str = include_str!("../data/windows.txt");
+const REPORTS: &str = include_str!("../data/reports.txt");
 
-/// A word with everything that document 01 defines of it.
+/// A word with everything that document 01 defines of it; the report's head is that of request C-14.
 pub struct WordRecord {
     pub word: Vec<u8>,
     pub plain_trials: usize,
@@ -19,7 +20,7 @@ pub struct WordRecord {
     pub periods: Vec<Pair>,
     /// Half length and start.
     pub squares: Vec<(usize, usize)>,
-    /// Every length that the search for a cover may answer.
+    /// Every cover length. The smallest is answered.
     pub covers: Vec<usize>,
     pub board: [u8; BOARD],
     /// The block and the letter of the judge's first failure, by head and period.
@@ -80,6 +81,12 @@ pub struct WindowsRecord {
     pub starts: Vec<usize>,
 }
 
+/// A word and the words of its report.
+pub struct ReportRecord {
+    pub word: Vec<u8>,
+    pub report: Vec<u32>,
+}
+
 /// All records of the file, by kind.
 #[derive(Default)]
 pub struct Records {
@@ -132,6 +139,11 @@ fn places() -> HashMap<(usize, usize), usize> {
     all.map(|(place, pair)| (key(pair), place)).collect()
 }
 
+/// The words of a list by their numbers.
+fn output_words(numbers: &[usize]) -> Vec<u32> {
+    numbers.iter().map(|&x| x as u32).collect()
+}
+
 /// A board from its entries that are not 0: head, period, entry.
 fn board(text: &str) -> [u8; BOARD] {
     let places = places();
@@ -165,7 +177,7 @@ fn word_record(lines: &[Line]) -> WordRecord {
         covers: numbers(rows["cover"]),
         board: board(rows["ended"]),
         failures: parts(rows["judge"]).into_iter().map(failure).collect(),
-        report: numbers(rows["report"]).iter().map(|&x| x as u32).collect(),
+        report: output_words(&numbers(rows["report"])),
     }
 }
 
@@ -199,7 +211,7 @@ fn answered(line: &Line) -> Answered {
         "list" => Call::List(argument()),
         other => panic!("{other} is no call"),
     };
-    let words: Vec<u32> = due[2..].iter().map(|&x| x as u32).collect();
+    let words = output_words(&due[2..]);
     Answered {
         call,
         answer: Answer {
@@ -335,4 +347,19 @@ fn windows_record(line: &'static str) -> WindowsRecord {
 pub fn read_windows() -> Vec<WindowsRecord> {
     let lines = WINDOWS.lines().filter(|line| !line.starts_with('#'));
     lines.map(windows_record).collect()
+}
+
+fn report_record(line: &'static str) -> ReportRecord {
+    let (left, listed) = sides(line);
+    let letters = left.strip_prefix("report ");
+    ReportRecord {
+        word: word(letters.expect("a word and its report")),
+        report: output_words(&listed),
+    }
+}
+
+/// Reads the file of reports.
+pub fn read_reports() -> Vec<ReportRecord> {
+    let lines = REPORTS.lines().filter(|line| !line.starts_with('#'));
+    lines.map(report_record).collect()
 }

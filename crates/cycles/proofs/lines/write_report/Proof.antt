@@ -4,7 +4,7 @@ use mathlib.Core.List.{List}
 use Prim.Native.Nat.{ℕ, _+_, _%_, _^_, _≤_}
 use native.Mathlib.Omega.{arith}
 use lib.ListN.{length, getD, length-append, length-take, length-drop}
-use lib.Dec.{eqb}
+use lib.Dec.{ltb}
 use borrow.Author.Needs.{needs}
 use Rattle.abelian.specs.Lists.{each}
 use Rattle.cycles.specs.Lines.{coverLine}
@@ -22,7 +22,7 @@ module _ (c : tie.After-write-words) where
   words = start .args .words .now
 
   abbrev found : Bool
-  found = eqb (getD words 0 0 % 2 ^ 14) 1
+  found = ltb 0 (getD words 0 0 % 2 ^ 14)
 
   -- the cover's line has places behind them
   room : c .write-words .result + length (coverLine found) ≤ length (c .write-words .last .1 .0)
@@ -34,7 +34,7 @@ unfolding textOf
 write-words-requires c κs =
     let s = c .before .before .before in
     let words : List ℕ = s .args .words .now in
-    omega (arith, s .pre .1, length-append (each words lineOf) (coverLine (eqb (getD words 0 0 % 2 ^ 14) 1)))
+    omega (arith, s .pre .1, length-append (each words lineOf) (coverLine (ltb 0 (getD words 0 0 % 2 ^ 14))))
 
 shared-slice-read-write-cover : tie.Need-shared-slice-read-write-cover
 shared-slice-read-write-cover c = search needs

@@ -7,10 +7,8 @@ use mathlib.Core.List.{List, [], _∷_, _++_, append-assoc}
 use Prim.Native.Nat.{ℕ, _+_, _-_, _≤_}
 use native.Mathlib.Omega.{arith}
 use lib.ListN.{length, set, length-append, length-set}
-use lib.Dec.{ltb}
 use borrow.Author.Needs.{needs}
 use borrow.Rule.Slice.PartMut.{putMid}
-use Rattle.abelian.specs.Lists.{one}
 use Rattle.abelian.specs.Words.{longest}
 use Rattle.abelian.specs.FullPeriods.{scale, scaledGap}
 use Rattle.abelian.specs.Trials.{skippingTrials}
@@ -40,7 +38,7 @@ module _ (c : tie.After-head-word) where
   before = start .args .out .now
 
   abbrev head : ℕ
-  head = reportHead (length w) (one (ltb 0 (coverLength w)))
+  head = reportHead (length w) (coverLength w)
 
   abbrev out₁ : List ℕ
   out₁ = set before 0 (c .head-word .result)
