@@ -11,12 +11,13 @@ use lib.ListN.{length, drop, length-take, length-drop}
 use lib.Dec.{T}
 use Rattle.abelian.specs.Lists.{upFrom, Ordered}
 use Rattle.abelian.specs.Words.{longest, ofLetters, count, vector, contained, part}
-use Rattle.abelian.specs.Output.{outputWord, runWord, handsWord}
+use Rattle.abelian.specs.Output.{runWord, handsWord}
 use Rattle.abelian.specs.Squares.{isSquare, squareStarts}
 use Rattle.abelian.specs.Runs.{Run, most, goesBack, runStarts, repeats, runEnd, leftFits, rightFits, leftHand, rightHand, runAt, runs, wordsOfRun, runWords, readRun, AbelianRun, RunBefore}
 use Rattle.abelian.proofs.Tests.{left, right}
 use Rattle.abelian.proofs.Lists.{equal-same, mem-upFrom, upFrom-mem, mem-each, each-mem, length-each, ordered-keep, ordered-upFrom, ordered-map, ordered-each}
 use Rattle.abelian.proofs.Counts.{counts-noneAbove, letters-part, shorter-contained}
+use Rattle.abelian.proofs.Output.{upper-read, lower-read}
 use Rattle.abelian.proofs.Largest.{largest-most, le-most, most-largest, most-le}
 use Rattle.abelian.proofs.Blocks.{Blocks, Ends, RunStart, alike-back, back-alike, blocks-largest, blocks-repeats, firstVector, fits-start, end-within, found-blocks, largest-blocks, start-fits, two-blocks}
 
@@ -147,16 +148,13 @@ module _ (w : List ℕ) where
 -- a run's two words give it back
 pub readRun-words : (r : Run) → r .d < 2 ^ 14 → r .i < 2 ^ 14 → r .j < 2 ^ 12 → r .left < 2 ^ 8 → r .right < 2 ^ 8
     → readRun (runWord (r .d) (r .i)) (handsWord (r .j) (r .left) (r .right)) ≡ r
-unfolding readRun runWord handsWord outputWord
+unfolding readRun runWord handsWord
 readRun-words r d i j left right =
-    let first : ℕ = 5 * 2 ^ 28 + r .d * 2 ^ 14 + r .i in
     let second : ℕ = 6 * 2 ^ 28 + r .j * 2 ^ 16 + r .left * 2 ^ 8 + r .right in
-    let e : first / 2 ^ 14 % 2 ^ 14 ≡ r .d = omega arith in
-    let f : first % 2 ^ 14 ≡ r .i = omega arith in
     let g : second / 2 ^ 16 % 2 ^ 12 ≡ r .j = omega arith in
     let h : second / 2 ^ 8 % 2 ^ 8 ≡ r .left = omega arith in
     let k : second % 2 ^ 8 ≡ r .right = omega arith in
-    rw (e, f, g, h, k)
+    rw (upper-read 5 (r .d) (r .i) d i, lower-read 5 (r .d) (r .i) d i, g, h, k)
 
 -- no number of the run is above n
 pub record Within (n : ℕ) (r : Run) : Type 0 where
