@@ -172,7 +172,7 @@ cover-length w t is c =
     let b : (i : Interval) × List·Memᴰ i is × Holds i (length w) = c .holding (length w) (omega (arith, c .long)) (omega arith) in
     outer-length w t (a .0) (b .0) (c .proper (a .0) (a .1)) (c .proper (b .0) (b .1)) (a .2) (b .2) (c .equal (a .0) (b .0) (a .1) (b .1))
 
--- ---- Lemma 4
+-- ---- Lemma 4, and what is answered
 
 -- the length among the answer's numbers, which is 0 where none is answered
 cover-of : (m : ℕ) → noneOrLength m .cover ≡ m
