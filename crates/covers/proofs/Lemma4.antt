@@ -11,18 +11,19 @@ use native.Mathlib.Omega.{arith}
 use lib.ListN.{length, take, drop, length-drop}
 use lib.Seq.{take-all, length-take-le}
 use lib.Dec.{T, eqb, leb}
-use borrow.Author.Tests.{eqb-true, eqb-false, ne-eqb, leb-true, leb-false}
+use borrow.Author.Tests.{eqb-true, eqb-false, leb-true, leb-false}
 use Rattle.abelian.specs.Lists.{upFrom}
 use Rattle.abelian.specs.Words.{ofLetters, vector}
 use Rattle.abelian.specs.Covers.{Interval, within, Proper, Holds, Cover, CoverLength, SmallestCoverLength, isCoverLength, coverLength}
 use Rattle.abelian.specs.Refusals.{wordRefusal}
 use Rattle.abelian.specs.Answers.{Answer, deciding}
-use Rattle.abelian.specs.Calls.{noneOrLength, coverAnswer}
+use Rattle.abelian.specs.Calls.{coverAnswer}
 use Rattle.abelian.proofs.Tests.{decided}
 use Rattle.abelian.proofs.Lists.{mem-upFrom, upFrom-mem, firstOf-found, firstOf-none, firstOf-within, firstOf-least}
 use Rattle.abelian.proofs.Counts.{letters-take, letters-drop, vector-length}
 use Rattle.words.proofs.Refusals.{accepted-letters}
 use Rattle.covers.proofs.CoverLengths.{test-cover, cover-test, ends-mirrored}
+use Rattle.covers.proofs.Answers.{answer-nothing, answer-length, answer-cover, answer-yes}
 
 -- ---- the lengths
 
@@ -174,29 +175,6 @@ cover-length w t is c =
 
 -- ---- Lemma 4, and what is answered
 
--- the length among the answer's numbers, which is 0 where none is answered
-cover-of : (m : ℕ) → noneOrLength m .cover ≡ m
-unfolding noneOrLength
-cover-of m = ⊎-elim (λ (e : eqb m 0 ≡ true). rw e (sym (eqb-true m 0 e))) (λ (e : eqb m 0 ≡ false). rw e) (decided (eqb m 0))
-
--- so none is answered for the length 0 alone
-none-zero : (m : ℕ) → noneOrLength m ≡ deciding 0 0 0 0 → m ≡ 0
-none-zero m h = sym (cover-of m) ∙ ap (λ (a : Answer). a .cover) h
-
--- and a length for itself alone, where it is not 0
-some-length : (k m : ℕ) → noneOrLength k ≡ deciding 1 0 0 m → (k ≢ 0) × (k ≡ m)
-unfolding noneOrLength
-some-length k m h = (
-  λ z.
-      let q : noneOrLength 0 ≡ deciding 1 0 0 m = subst (λ (j : ℕ). noneOrLength j ≡ deciding 1 0 0 m) z h in
-      omega (arith, ap (λ (a : Answer). a .yes) q),
-  sym (cover-of k) ∙ ap (λ (a : Answer). a .cover) h,
-)
-
-length-some : (m : ℕ) → m ≢ 0 → noneOrLength m ≡ deciding 1 0 0 m
-unfolding noneOrLength
-length-some m n = rw (ne-eqb m 0 n)
-
 module _ (w : List ℕ) where
   -- a cover length that is not 0 is that of a cover: the first and the last letters of that length
   pub coverLength-cover : coverLength w ≢ 0 → Cover w (firstInterval (coverLength w) ∷ lastInterval (length w) (coverLength w) ∷ [])
@@ -219,24 +197,18 @@ module _ (w : List ℕ) where
   pub lemma-4 : T (ofLetters w) → (coverLength w ≡ 0) ↔ ((is : List Interval) → Cover w is → ⊥)
   lemma-4 t = (zero-no-cover t, no-cover-zero)
 
-  -- of a word that is accepted, the answer is none exactly where no intervals are a cover of it
-  pub answer-none : wordRefusal w false 0 0 ≡ none → (coverAnswer w ≡ deciding 0 0 0 0) ↔ ((is : List Interval) → Cover w is → ⊥)
-  unfolding coverAnswer noneOrLength
-  answer-none e = (
-    λ q. zero-no-cover (accepted-letters w e) (none-zero (coverLength w) (rw e at q)),
-    λ h. rw (e, no-cover-zero h),
-  )
+  module _ (e : wordRefusal w false 0 0 ≡ none) where
+    -- of a word that is accepted, the answer is none exactly where no intervals are a cover of it
+    pub answer-none : (coverAnswer w ≡ deciding 0 0 0 0) ↔ ((is : List Interval) → Cover w is → ⊥)
+    answer-none = (
+      λ q. zero-no-cover (accepted-letters w e) (sym (answer-cover w e) ∙ ap (λ (a : Answer). a .cover) q),
+      λ h. sym (answer-nothing w e (no-cover-zero h)),
+    )
 
-  -- the length among its numbers is the cover length
-  pub answer-cover : wordRefusal w false 0 0 ≡ none → coverAnswer w .cover ≡ coverLength w
-  unfolding coverAnswer
-  answer-cover e = rw e (cover-of (coverLength w))
-
-  -- C-14: the answer is yes with the length m exactly where m is the smallest of those that document 01 leaves free
-  pub answer-smallest : wordRefusal w false 0 0 ≡ none → (m : ℕ) → (coverAnswer w ≡ deciding 1 0 0 m) ↔ SmallestCoverLength w m
-  unfolding coverAnswer
-  answer-smallest e m = (
-    λ q. let f : (coverLength w ≢ 0) × (coverLength w ≡ m) = some-length (coverLength w) m (rw e at q) in
-        subst (SmallestCoverLength w) (f .1) (coverLength-smallest w (f .0)),
-    λ s. rw (e, smallest-coverLength w m s) (length-some m (λ z. omega (arith, s .isOne .below, s .isOne .half))),
-  )
+    -- C-14: and it is yes with the length m exactly where m is the smallest of those that document 01 leaves free
+    pub answer-smallest : (m : ℕ) → (coverAnswer w ≡ deciding 1 0 0 m) ↔ SmallestCoverLength w m
+    answer-smallest m = (
+      λ q. subst (SmallestCoverLength w) (sym (answer-cover w e) ∙ ap (λ (a : Answer). a .cover) q)
+          (coverLength-smallest w (answer-yes w e (ap (λ (a : Answer). a .yes) q))),
+      λ s. sym (answer-length w e (sym (smallest-coverLength w m s)) (λ z. omega (arith, s .isOne .below, s .isOne .half))),
+    )

@@ -15,7 +15,8 @@ use Rattle.abelian.specs.Calls.{coverAnswer, reportWords, reporting}
 use Rattle.abelian.proofs.Output.{lower-read}
 use Rattle.words.proofs.Refusals.{accepted-length}
 use Rattle.words.proofs.Listings.{listing-written}
-use Rattle.covers.proofs.Lemma4.{coverLength-le-length, answer-cover}
+use Rattle.covers.proofs.Answers.{answer-cover}
+use Rattle.covers.proofs.Lemma4.{coverLength-le-length}
 
 module _ (w : List ℕ) (short : length w ≤ longest) where
   -- the cover length has room in the head's lower part

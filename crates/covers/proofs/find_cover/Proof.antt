@@ -1,35 +1,13 @@
 -- `covers::find_cover` meets its contract: what `check_word` answers decides between a refusal and the cover length. Assumes nothing.
 use mathlib.Core.Path.{_≡_, sym, _∙_}
 use mathlib.Core.Bool.{false}
-use mathlib.Core.Logic.{_≢_}
-use mathlib.Core.Option.{none, some}
-use mathlib.Core.List.{List, []}
-use Prim.Native.Nat.{ℕ}
+use mathlib.Core.Option.{none}
 use borrow.Author.Needs.{needs}
-use borrow.Author.Tests.{ne-eqb}
-use Rattle.abelian.specs.Covers.{coverLength}
 use Rattle.abelian.specs.Refusals.{wordRefusal}
-use Rattle.abelian.specs.Answers.{refusing, deciding}
-use Rattle.abelian.specs.Calls.{noneOrLength, coverAnswer}
-use Rattle.abelian.specs.declared.Refusal.{Refusal}
 use Rattle.words.proofs.Refusals.{accepted-none, refused-some, accepted-length, accepted-letters}
+use Rattle.covers.proofs.Answers.{answer-refused, answer-nothing, answer-length}
 use Rattle.covers.proofs.find_cover.Statement.{statement}
 use Rattle.covers.proofs.find_cover.Tie as tie
-
--- a word that is refused is answered with its refusal
-answer-refused : (w : List ℕ) (r : Refusal) → wordRefusal w false 0 0 ≡ some r → refusing r [] ≡ coverAnswer w
-unfolding coverAnswer
-answer-refused w r e = rw e
-
--- a word that is accepted is answered with none, where its cover length is 0
-answer-nothing : (w : List ℕ) → wordRefusal w false 0 0 ≡ none → coverLength w ≡ 0 → deciding 0 0 0 0 ≡ coverAnswer w
-unfolding coverAnswer noneOrLength
-answer-nothing w e z = rw (e, z)
-
--- and else with its cover length
-answer-length : (w : List ℕ) {m : ℕ} → wordRefusal w false 0 0 ≡ none → m ≡ coverLength w → m ≢ 0 → deciding 1 0 0 m ≡ coverAnswer w
-unfolding coverAnswer noneOrLength
-answer-length w {m} e q n = rw (e, ← q, ne-eqb m 0 n)
 
 check-word-requires : tie.Need-check-word-requires
 check-word-requires c κs = search needs
