@@ -10,7 +10,7 @@ use lib.ListN.{length, length-append}
 use lib.Dec.{T, eqb, ltb, eqb→eq, eqb-refl}
 use borrow.Author.Tests.{eqb-true, eqb-false, ltb-true, ltb-false, ne-eqb}
 use Rattle.abelian.specs.Lists.{pick, one, upFrom, largest, same, put, keep, all, each, firstOf, Ordered}
-use Rattle.abelian.proofs.Tests.{is-false, both, left, right, decided, passes, fails}
+use Rattle.abelian.proofs.Tests.{is-false, picked, both, left, right, decided, passes, fails}
 
 -- ---- equal lists of numbers
 
@@ -231,16 +231,11 @@ module _ (f : ℕ → Bool) where
       (λ (n : f x ≡ false). rw n (firstOf-append xs ys (λ k m. h k (List·Memᴰ·tail m))))
       (decided (f x))
 
--- one of two numbers that are no larger than m
-pub pick-le : (b : Bool) {x y m : ℕ} → x ≤ m → y ≤ m → pick b x y ≤ m
-pick-le true p q = p
-pick-le false p q = q
-
 module _ (f : ℕ → Bool) where
   -- of the numbers from a + 1 on, the first that passes is no larger than the last of them
   pub firstOf-within : (a n : ℕ) → firstOf f (upFrom (suc a) n) ≤ a + n
   firstOf-within a zero = omega arith
-  firstOf-within a (suc n) = pick-le (f (suc a)) (omega arith) (omega (arith, firstOf-within (suc a) n))
+  firstOf-within a (suc n) = picked (λ (k : ℕ). k ≤ a + suc n) (f (suc a)) (omega arith) (omega (arith, firstOf-within (suc a) n))
 
   -- of the numbers from a on, the first that passes is no larger than any other that does
   pub firstOf-least : (a n k : ℕ) → List·Memᴰ k (upFrom a n) → T (f k) → firstOf f (upFrom a n) ≤ k

@@ -1,8 +1,9 @@
--- Laws of tests: a test that passes is true, and both parts of a conjunction pass.
+-- Laws of tests: a test that passes is true, both parts of a conjunction pass, and what a test picks is one of two.
 use mathlib.Core.Path.{_≡_, refl, sym, subst}
 use mathlib.Core.Bool.{Bool, true, false, _&&_}
 use mathlib.Core.Logic.{_⊎_, inl, inr}
 use lib.Dec.{T}
+use Rattle.abelian.specs.Lists.{pick}
 
 pub is-true : (b : Bool) → T b → b ≡ true
 is-true true t = refl
@@ -22,6 +23,11 @@ fails b e t = subst T e t
 pub decided : (b : Bool) → (b ≡ true) ⊎ (b ≡ false)
 decided true = inl refl
 decided false = inr refl
+
+-- what holds of two holds of the one that is picked
+pub picked : {A : Type 0} (P : A → Type 0) (b : Bool) {x y : A} → P x → P y → P (pick b x y)
+picked P true p q = p
+picked P false p q = q
 
 pub both : (a b : Bool) → T a → T b → T (a && b)
 both true b s t = t

@@ -11,7 +11,8 @@ use lib.Dec.{T, ltb, ltb→lt}
 use borrow.Author.Tests.{lt-ltb}
 use Rattle.io.specs.Digits.{glyph, digits, Fewest}
 use Rattle.abelian.specs.Lists.{upFrom, firstOf}
-use Rattle.abelian.proofs.Lists.{mem-upFrom, upFrom-append, none-firstOf, firstOf-append, pick-le, firstOf-within}
+use Rattle.abelian.proofs.Tests.{picked}
+use Rattle.abelian.proofs.Lists.{mem-upFrom, upFrom-append, none-firstOf, firstOf-append, firstOf-within}
 use Rattle.cycles.specs.Text.{places, decimal}
 
 length-digits : (b k n : ℕ) → length (digits b k n) ≡ k
@@ -54,8 +55,10 @@ digits-decimal n k h f =
 pub few-places : (n : ℕ) → n < 2 ^ 14 → places n ≤ 5
 unfolding places
 few-places n h =
+    let Few : ℕ → Type 0 = λ k. k ≤ 5 in
     rw (lt-ltb n 100000 (omega arith))
-    (pick-le (ltb n 10) (omega arith) (pick-le (ltb n 100) (omega arith) (pick-le (ltb n 1000) (omega arith) (pick-le (ltb n 10000) (omega arith) (omega arith)))))
+    (picked Few (ltb n 10) (omega arith)
+    (picked Few (ltb n 100) (omega arith) (picked Few (ltb n 1000) (omega arith) (picked Few (ltb n 10000) (omega arith) (omega arith)))))
 
 -- no number has more than twenty
 pub most-places : (n : ℕ) → places n ≤ 20

@@ -7,11 +7,12 @@ use native.Mathlib.Nat.{suc-mul, mul-le-mul-right}
 use native.Mathlib.Omega.{arith}
 use lib.ListN.{length, getD, length-append}
 use lib.Dec.{eqb, ltb}
-use Rattle.abelian.specs.Lists.{pick, each}
+use Rattle.abelian.specs.Lists.{each}
 use Rattle.abelian.specs.Words.{longest}
 use Rattle.abelian.specs.Trackers.{boardSize}
 use Rattle.abelian.specs.Refusals.{numberOf, valueOf}
 use Rattle.abelian.specs.declared.Refusal.{Refusal}
+use Rattle.abelian.proofs.Tests.{picked}
 use Rattle.cycles.specs.Text.{ascii, places, spaced, line}
 use Rattle.cycles.specs.Lines.{lengthLine, fullLine, periodLine, squareLine, coverLine, refusalLine}
 use Rattle.report.specs.Places.{longestReport}
@@ -49,20 +50,17 @@ module _ (name : List ℕ) where
         length-spaced b,
       )
 
-pick-short : (b : Bool) (x y : List ℕ) {m : ℕ} → length x ≤ m → length y ≤ m → length (pick b x y) ≤ m
-pick-short true x y p q = p
-pick-short false x y p q = q
-
 -- the line of parts of 14 bits
 kind-short : (kind upper lower : ℕ) → upper < 2 ^ 14 → lower < 2 ^ 14 → length (kindLine kind upper lower) ≤ longestLine
 unfolding kindLine periodLine squareLine fullLine lengthLine longestLine
 kind-short kind upper lower u l =
     let a : places upper ≤ 5 = few-places upper u in
     let b : places lower ≤ 5 = few-places lower l in
-    pick-short (eqb kind 1) _ _ (omega (arith, line-of-two (ascii "period") lower upper))
-    (pick-short (eqb kind 2) _ _ (omega (arith, line-of-two (ascii "square") lower upper))
-    (pick-short (eqb kind 3) _ _ (omega (arith, line-of-one (ascii "full") upper))
-    (pick-short (eqb kind 8) _ _ (omega (arith, line-of-one (ascii "n") upper)) (omega arith))))
+    let Short : List ℕ → Type 0 = λ text. length text ≤ longestLine in
+    picked Short (eqb kind 1) (omega (arith, line-of-two (ascii "period") lower upper))
+    (picked Short (eqb kind 2) (omega (arith, line-of-two (ascii "square") lower upper))
+    (picked Short (eqb kind 3) (omega (arith, line-of-one (ascii "full") upper))
+    (picked Short (eqb kind 8) (omega (arith, line-of-one (ascii "n") upper)) (omega arith))))
 
 line-short : (word : ℕ) → length (lineOf word) ≤ longestLine
 unfolding lineOf
