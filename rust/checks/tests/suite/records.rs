@@ -303,6 +303,11 @@ pub fn read() -> Records {
     records
 }
 
+/// The lines of a file that has one record in each.
+fn records(text: &'static str) -> impl Iterator<Item = &'static str> {
+    text.lines().filter(|line| !line.starts_with('#'))
+}
+
 fn runs_record(line: &str) -> RunsRecord {
     let sides = line.strip_prefix("runs ").and_then(|x| x.split_once(" ->"));
     let (letters, listed) = sides.expect("a word, an arrow, its runs");
@@ -326,8 +331,7 @@ fn runs_record(line: &str) -> RunsRecord {
 
 /// Reads the file of runs.
 pub fn read_runs() -> Vec<RunsRecord> {
-    let lines = RUNS.lines().filter(|line| !line.starts_with('#'));
-    lines.map(runs_record).collect()
+    records(RUNS).map(runs_record).collect()
 }
 
 fn windows_record(line: &'static str) -> WindowsRecord {
@@ -345,8 +349,7 @@ fn windows_record(line: &'static str) -> WindowsRecord {
 
 /// Reads the file of windows.
 pub fn read_windows() -> Vec<WindowsRecord> {
-    let lines = WINDOWS.lines().filter(|line| !line.starts_with('#'));
-    lines.map(windows_record).collect()
+    records(WINDOWS).map(windows_record).collect()
 }
 
 fn report_record(line: &'static str) -> ReportRecord {
@@ -360,6 +363,5 @@ fn report_record(line: &'static str) -> ReportRecord {
 
 /// Reads the file of reports.
 pub fn read_reports() -> Vec<ReportRecord> {
-    let lines = REPORTS.lines().filter(|line| !line.starts_with('#'));
-    lines.map(report_record).collect()
+    records(REPORTS).map(report_record).collect()
 }
