@@ -1,10 +1,10 @@
 -- Laws of rows: the open pairs of a board, row by row, and their output words.
-use mathlib.Core.Path.{_≡_, refl, sym, ap, _∙_}
+use mathlib.Core.Path.{_≡_, refl, sym, ap, ap₂, _∙_}
 use mathlib.Core.Bool.{Bool, true, false, _&&_}
 use mathlib.Core.List.{List, [], _∷_, _++_, map, map-append}
 use Prim.Native.Nat.{ℕ, zero, suc, _+_, _-_, _≤_, _<_}
 use native.Mathlib.Omega.{arith}
-use lib.ListN.{length, take, getD, set, length-append, length-map}
+use lib.ListN.{length, take, drop, getD, set, length-append, length-take, length-map}
 use lib.Seq.{sets, drop-cons}
 use lib.Dec.{T, eqb, leb}
 use borrow.Author.Tests.{leb-true}
@@ -136,14 +136,6 @@ rows-end : T (all (λ (p : ℕ). leb (rowStart p + heads longest p) boardSize) (
 unfolding rowStart heads longest boardSize
 rows-end = tt
 
-starts-within : T (all (λ (p : ℕ). leb (rowStart p) boardSize) (upFrom 0 (suc longest)))
-unfolding rowStart longest boardSize
-starts-within = tt
-
-pub start-within : (p : ℕ) → p ≤ longest → rowStart p ≤ boardSize
-start-within p l =
-    leb-true _ _ (is-true _ (all-mem (λ (q : ℕ). leb (rowStart q) boardSize) (upFrom 0 (suc longest)) starts-within (upFrom-mem 0 (suc longest) p (omega arith) (omega arith))))
-
 pub row-end : (n p : ℕ) → 1 ≤ p → p ≤ n → n ≤ longest → rowStart p + heads n p ≤ boardSize
 unfolding heads
 row-end n p l m u =
@@ -154,3 +146,13 @@ row-end n p l m u =
 pub heads-le : (n p : ℕ) → heads n p ≤ p
 unfolding heads
 heads-le n p = omega arith
+
+-- what is lent of a board from the row's start to its end is the row
+pub row-lent : (board : List ℕ) {start size a m : ℕ} → start ≡ a → size ≡ m → take (start + size - start) (drop start board) ≡ part board a m
+row-lent board {start} {size} begins has =
+    let e : start + size - start ≡ size = omega arith in
+    ap₂ (λ k a. take k (drop a board)) (e ∙ has) begins
+
+-- no row has more entries than the longest word has letters
+pub row-short : (board : List ℕ) (n p : ℕ) → p ≤ n → n ≤ longest → length (part board (rowStart p) (heads n p)) ≤ longest
+row-short board n p l u = omega (arith, length-take (heads n p) (drop (rowStart p) board), heads-le n p)

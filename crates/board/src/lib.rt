@@ -1,12 +1,10 @@
 // The board: one entry for each pair in range for 240, in pair order. Where the row of a period begins and how long it is, and the pairs
 // whose entry is 0 counted and written: the tracker's list and both listers end in these two, and their counts in the first. For the crates above.
 pub mod ending;
-mod row_starts;
 
 use abelian::BOARD;
 use abelian::Head;
 use abelian::Period;
-use row_starts::ROW_STARTS;
 ghost use mathlib.Core.Path.{_≡_};
 ghost use Prim.Native.Nat.{_+_, _≤_};
 ghost use lib.ListN.{length};
@@ -18,13 +16,18 @@ ghost use Rattle.abelian.specs.Trackers.{openPairs, openWords};
 ghost use Rattle.board.specs.Places.{rowStart};
 ghost use Rattle.board.specs.Rows.{rowWords};
 
-// Where the row of the period begins.
+// Where the row of the period begins: behind the p (p − 1) / 2 pairs with a smaller period while rows grow, and from 122 on, where they
+// shrink, as far before the board's end as the rows from p on take, of 241 − p pairs and fewer.
 pub fn row_start(period: Period) -> usize
     requires { ⌜ period .0 ≤ longest ⌝ }
     ensures { λ r. ⌜ r ≡ rowStart (period .0) ⌝ }
 {
     let p = period.0;
-    ROW_STARTS[p] as usize
+    if p <= 121 {
+        (p * p - p) / 2
+    } else {
+        14520 - (241 - p) * (242 - p) / 2
+    }
 }
 
 // How many heads are in range for n with the period: those below p that leave room for a block.
@@ -36,11 +39,13 @@ pub fn row_heads(n: usize, period: Period) -> usize
     if p <= n - p { p } else { n + 1 - p }
 }
 
-// How many of the entries are 0.
+// How many of a row's entries are 0. A byte holds the number, since no row has more entries than the longest word has letters; the loop is
+// then compiled to vector instructions.
 fn count_zeros(row: &[u8]) -> usize
+    requires { ⌜ length (now row) ≤ longest ⌝ }
     ensures { λ r. ⌜ r ≡ count 0 (now (row .entry)) ⌝ }
 {
-    let mut zeros = 0;
+    let mut zeros = 0u8;
     let mut i = 0;
     while i < row.len() {
         if row[i] == 0 {
@@ -48,7 +53,7 @@ fn count_zeros(row: &[u8]) -> usize
         }
         i += 1;
     }
-    zeros
+    zeros as usize
 }
 
 // How many pairs in range for n have the entry 0.

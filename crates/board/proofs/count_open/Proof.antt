@@ -1,16 +1,17 @@
 -- `board::count_open` meets its contract. The invariant of its loop: the open pairs of the rows passed are counted. The measure is what is left of
 -- the rows. Assumes nothing.
-use mathlib.Core.Path.{_≡_, refl, ap, ap₂, _∙_}
+use mathlib.Core.Path.{_≡_, refl, ap, _∙_}
+use mathlib.Core.List.{List}
 use Prim.Native.Nat.{ℕ, suc, _+_, _-_, _*_, _≤_}
 use native.Mathlib.Omega.{arith}
-use lib.ListN.{length, take, drop, length-append, length-take}
+use lib.ListN.{length, length-append}
 use Rattle.abelian.specs.Words.{longest, count, part}
 use Rattle.abelian.specs.Lists.{keep}
 use Rattle.abelian.specs.Periods.{heads, row}
 use Rattle.abelian.specs.Trackers.{boardSize}
 use Rattle.abelian.proofs.Counts.{count-le-length}
 use Rattle.board.specs.Places.{rowStart, isOpen}
-use Rattle.board.proofs.Rows.{openUpTo, openUpTo-more, openUpTo-all, row-count, row-end, heads-le}
+use Rattle.board.proofs.Rows.{openUpTo, openUpTo-more, openUpTo-all, row-count, row-end, row-lent, row-short}
 use borrow.Author.Needs.{needs}
 use Rattle.board.proofs.count_open.Statement.{statement}
 use Rattle.board.proofs.count_open.Tie as tie
@@ -50,6 +51,12 @@ module _ (c : tie.After-row-heads Inv-loop μ-loop) where
   has : c .row-heads .result ≡ heads n p
   has = c .row-heads .ensures
 
+  abbrev entries : List ℕ
+  entries = part (at-loop .before .before .args .board .now) (rowStart p) (heads n p)
+
+  short : length entries ≤ longest
+  short = row-short (at-loop .before .before .args .board .now) n p (c .before .before .loop-test .taken) (at-loop .before .before .pre)
+
 add-end : tie.Need-add-end Inv-loop μ-loop
 unfolding boardSize
 add-end c = omega (arith, on-board c, begins c, has c)
@@ -65,22 +72,15 @@ unfolding boardSize
 part-count-zeros-end c = omega (arith, on-board c, begins c, has c)
 
 count-zeros-requires : tie.Need-count-zeros-requires Inv-loop μ-loop
-count-zeros-requires c κs = search needs
+count-zeros-requires c κs = let r = c .before in omega (arith, ap length (row-lent (at-loop r .before .before .args .board .now) (begins r) (has r)), short r)
 
 -- the zeros of the row
-zeros : (c : tie.After-count-zeros Inv-loop μ-loop) → c .count-zeros .result ≡ count 0 (part (at-loop (c .before .before) .before .before .args .board .now) (rowStart (p (c .before .before))) (heads (n (c .before .before)) (p (c .before .before))))
-zeros c =
-    let r = c .before .before in
-    let start = r .before .row-start .result in
-    let size : start + r .row-heads .result - start ≡ heads (n r) (p r) = omega (arith, has r) in
-    c .count-zeros .ensures ∙ ap₂ (λ k a. count 0 (take k (drop a (at-loop r .before .before .args .board .now)))) size (begins r)
+zeros : (c : tie.After-count-zeros Inv-loop μ-loop) → c .count-zeros .result ≡ count 0 (entries (c .before .before))
+zeros c = let r = c .before .before in c .count-zeros .ensures ∙ ap (count 0) (row-lent _ (begins r) (has r))
 
 -- so there are at most as many as heads
 small : (c : tie.After-count-zeros Inv-loop μ-loop) → c .count-zeros .result ≤ longest
-small c =
-    let r = c .before .before in
-    let row = part (at-loop r .before .before .args .board .now) (rowStart (p r)) (heads (n r) (p r)) in
-    omega (arith, zeros c, count-le-length 0 row, length-take (heads (n r) (p r)) (drop (rowStart (p r)) (at-loop r .before .before .args .board .now)), heads-le (n r) (p r), at-loop r .before .before .pre, r .before .before .loop-test .taken)
+small c = let r = c .before .before in omega (arith, zeros c, count-le-length 0 (entries r), short r)
 
 add-found : tie.Need-add-found Inv-loop μ-loop
 unfolding longest
@@ -104,7 +104,7 @@ loop-again c =
     let e : p r + 1 - 1 ≡ p r = omega arith in
     let counted : length (openUpTo (n r) board (p r)) ≡ length (openUpTo (n r) board (p r - 1)) + length opened =
     ap length (openUpTo-more (n r) board (p r) (at-loop r .loop .inv .0)) ∙ length-append (openUpTo (n r) board (p r - 1)) opened in
-    let open-count : length opened ≡ count 0 (part board (rowStart (p r)) (heads (n r) (p r))) = row-count board (n r) (p r) (omega (arith, on-board r)) in
+    let open-count : length opened ≡ count 0 (entries r) = row-count board (n r) (p r) (omega (arith, on-board r)) in
     (omega arith, omega arith, omega (arith, small c, at-loop r .loop .inv .2), rw e (omega (arith, counted, open-count, zeros c, at-loop r .loop .inv .3)))
 
 returns : tie.Need-returns Inv-loop μ-loop

@@ -1,11 +1,11 @@
 -- `board::write_open` meets its contract. The invariant of its loop: the words of the rows passed stand in the first places. The measure is what
 -- is left of the rows. Assumes nothing.
-use mathlib.Core.Path.{_≡_, refl, ap, ap₂, _∙_}
+use mathlib.Core.Path.{_≡_, refl, ap, _∙_}
 use mathlib.Core.List.{List, _++_, map}
 use Prim.Native.Nat.{ℕ, suc, _+_, _-_, _≤_}
 use native.Mathlib.Nat.{zero-add}
 use native.Mathlib.Omega.{arith}
-use lib.ListN.{length, take, drop, length-append, length-take, length-map}
+use lib.ListN.{length, take, drop, length-append, length-map}
 use lib.Seq.{sets, sets-eq, length-sets}
 use Rattle.abelian.specs.Lists.{keep}
 use Rattle.abelian.specs.Words.{longest, count, part}
@@ -14,7 +14,7 @@ use Rattle.abelian.specs.Output.{periodWord, fill}
 use Rattle.abelian.specs.Trackers.{boardSize, openPairs}
 use Rattle.board.specs.Places.{rowStart, isOpen}
 use Rattle.board.specs.Rows.{rowWords}
-use Rattle.board.proofs.Rows.{openUpTo, openUpTo-more, openUpTo-rises, openUpTo-all, row-count, row-stored, row-end, heads-le}
+use Rattle.board.proofs.Rows.{openUpTo, openUpTo-more, openUpTo-rises, openUpTo-all, row-count, row-stored, row-end, row-lent, row-short}
 use borrow.Author.Needs.{needs}
 use Rattle.board.proofs.write_open.Statement.{statement}
 use Rattle.board.proofs.write_open.Tie as tie
@@ -62,9 +62,7 @@ module _ (c : tie.After-row-heads Inv-loop μ-loop) where
 
   -- the part that is lent is the row
   lent : take (c .before .row-start .result + c .row-heads .result - c .before .row-start .result) (drop (c .before .row-start .result) board) ≡ part board (rowStart p) (heads n p)
-  lent =
-      let size : c .before .row-start .result + c .row-heads .result - c .before .row-start .result ≡ heads n p = omega (arith, has) in
-      ap₂ (λ k a. take k (drop a board)) size begins
+  lent = row-lent board begins has
 
   fits : length board ≡ boardSize
   unfolding boardSize
@@ -95,9 +93,8 @@ part-write-row-end c = omega (arith, on-board c, begins c, has c)
 write-row-requires : tie.Need-write-row-requires Inv-loop μ-loop
 write-row-requires c κs =
     let r = c .before .before in
-    let row = part (board r) (rowStart (p r)) (heads (n r) (p r)) in
     let taken : p r ≤ n r = r .before .before .loop-test .taken in (
-      (omega (arith, ap length (lent r), length-take (heads (n r) (p r)) (drop (rowStart (p r)) (board r)), heads-le (n r) (p r), start r .pre .0), omega (arith, start r .pre .0)),
+      (omega (arith, ap length (lent r), row-short (board r) (n r) (p r) taken (start r .pre .0)), omega (arith, start r .pre .0)),
       omega (arith, ap (count 0) (lent r), row-open r, openUpTo-rises (n r) (board r) taken, ap length (openUpTo-all (n r) (board r) (start r .pre .0) (fits r)), start r .pre .1, same-places r, at-loop r .loop .inv .2),
     )
 

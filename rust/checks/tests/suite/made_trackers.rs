@@ -175,6 +175,29 @@ fn counts_of_boards_of_zeros() {
     }
 }
 
+/// One row of a board open and all others ended, for each row: the calls find the row's pairs, and touch no entry of another row. Where
+/// a row begins is found here by going through the pairs.
+#[test]
+fn boards_with_one_open_row() {
+    let mut generator = seeded(69);
+    let mut start = 0;
+    for p in 1..=LONGEST {
+        let end = start + (0..p).filter(|h| h + p <= LONGEST).count();
+        let mut tracker = Fields::zero();
+        tracker.length = LONGEST;
+        tracker.bytes = generator.uniform(LONGEST, 3).try_into().unwrap();
+        tracker.board = [LONGEST as u8 - 1; BOARD];
+        tracker.board[start..end].fill(0);
+        let counted = compare_count(&tracker, &mut generator);
+        assert_eq!(counted, Answer::of_words(end - start), "period {p}");
+        assert_eq!(compare_list(&tracker, end - start), 0, "period {p}");
+        tracker.length = LONGEST - 1;
+        assert_eq!(compare_add(&tracker, b'd'), 0, "period {p}");
+        start = end;
+    }
+    assert_eq!(start, BOARD);
+}
+
 /// Several calls in a row on one made tracker.
 #[test]
 fn calls_in_a_row_on_made_trackers() {
