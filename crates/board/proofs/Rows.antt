@@ -3,6 +3,7 @@ use mathlib.Core.Path.{_≡_, refl, sym, ap, ap₂, _∙_}
 use mathlib.Core.Bool.{Bool, true, false, _&&_}
 use mathlib.Core.List.{List, [], _∷_, _++_, map, map-append}
 use Prim.Native.Nat.{ℕ, zero, suc, _+_, _-_, _≤_, _<_}
+use native.Mathlib.Numerals.{add-one}
 use native.Mathlib.Omega.{arith}
 use lib.ListN.{length, take, drop, getD, set, length-append, length-take, length-map}
 use lib.Seq.{sets, drop-cons}
@@ -17,7 +18,7 @@ use Rattle.abelian.proofs.Tests.{is-true}
 use Rattle.abelian.proofs.Lists.{all-mem, upFrom-mem, upFrom-append, keep-append, each-append, each-last}
 use Rattle.board.specs.Places.{rowStart, placeOf, entryAt, isOpen}
 use Rattle.board.specs.Rows.{rowWords}
-use Rattle.board.proofs.Places.{board-of-entries, pairsWhere-boardOf, keep-in-range}
+use Rattle.board.proofs.Places.{next-row, board-of-entries, pairsWhere-boardOf, keep-in-range}
 
 -- ---- stores one behind the other
 
@@ -156,3 +157,25 @@ row-lent board {start} {size} begins has =
 -- no row has more entries than the longest word has letters
 pub row-short : (board : List ℕ) (n p : ℕ) → p ≤ n → n ≤ longest → length (part board (rowStart p) (heads n p)) ≤ longest
 row-short board n p l u = omega (arith, length-take (heads n p) (drop (rowStart p) board), heads-le n p)
+
+-- ---- from row to row
+
+-- a loop over the rows for words of n letters has come to the row of p, which begins at `start`
+pub record AtRow (n p start : ℕ) : Type 0 where
+  pub from : 1 ≤ p
+  pub to : p ≤ suc n
+  pub begins : start ≡ rowStart p
+
+pub first-row : (n : ℕ) → AtRow n 1 0
+unfolding rowStart
+first-row n = record { from = omega arith; to = omega arith; begins = refl }
+
+-- the next row begins where this one ends for the longest word, on the board or at its end
+module _ {n p start size : ℕ} (r : AtRow n p start) (l : p ≤ n) (u : n ≤ longest) (h : size ≡ heads longest p) where
+  pub ends-within : start + size ≤ boardSize
+  ends-within = omega (arith, r .begins, row-end longest p (r .from) (omega arith) (omega arith))
+
+  pub next-at-row : AtRow n (p + 1) (start + size)
+  next-at-row =
+      let e : rowStart (suc p) ≡ rowStart p + heads longest p = next-row p (r .from) (omega arith) in
+      record { from = omega arith; to = omega arith; begins = rw add-one (omega (arith, r .begins)) }

@@ -4,6 +4,7 @@ pub mod ending;
 
 use abelian::BOARD;
 use abelian::Head;
+use abelian::LONGEST;
 use abelian::Period;
 ghost use mathlib.Core.Path.{_≡_};
 ghost use Prim.Native.Nat.{_+_, _≤_};
@@ -39,8 +40,8 @@ pub fn row_heads(n: usize, period: Period) -> usize
     if p <= n - p { p } else { n + 1 - p }
 }
 
-// How many of a row's entries are 0. A byte holds the number, since no row has more entries than the longest word has letters; the loop is
-// then compiled to vector instructions.
+// How many of a row's entries are 0. A byte holds the number, since no row has more entries than the longest word has letters; so the
+// compiled loop compares and counts 16 entries at a time.
 fn count_zeros(row: &[u8]) -> usize
     requires { ⌜ length (now row) ≤ longest ⌝ }
     ensures { λ r. ⌜ r ≡ count 0 (now (row .entry)) ⌝ }
@@ -56,18 +57,20 @@ fn count_zeros(row: &[u8]) -> usize
     zeros as usize
 }
 
-// How many pairs in range for n have the entry 0.
+// How many pairs in range for n have the entry 0. The start is carried from row to row: each begins where the one before it ends for the
+// longest word.
 pub fn count_open(board: &[u8; BOARD], n: usize) -> usize
     requires { ⌜ n ≤ longest ⌝ }
     ensures { λ r. ⌜ r ≡ length (openPairs n (now (board .entry))) ⌝ }
 {
     let entries = &board[..];
     let mut found = 0;
+    let mut start = 0;
     let mut p = 1;
     while p <= n {
-        let start = row_start(Period(p));
         let end = start + row_heads(n, Period(p));
         found += count_zeros(&entries[start..end]);
+        start += row_heads(LONGEST, Period(p));
         p += 1;
     }
     found
@@ -103,7 +106,7 @@ fn write_row(row: &[u8], period: Period, out: &mut [u32], at: usize) -> usize
     next
 }
 
-// Writes the words of the pairs in range for n whose entry is 0 to the first places, in pair order.
+// Writes the words of the pairs in range for n whose entry is 0 to the first places, in pair order. The start is carried as in `count_open`.
 pub fn write_open(board: &[u8; BOARD], n: usize, out: &mut [u32])
     requires { ⌜ n ≤ longest ⌝ }
     requires { ⌜ length (openPairs n (now board)) ≤ length (now out) ⌝ }
@@ -111,11 +114,12 @@ pub fn write_open(board: &[u8; BOARD], n: usize, out: &mut [u32])
 {
     let entries = &board[..];
     let mut at = 0;
+    let mut start = 0;
     let mut row = 1;
     while row <= n {
-        let start = row_start(Period(row));
         let end = start + row_heads(n, Period(row));
         at = write_row(&entries[start..end], Period(row), out, at);
+        start += row_heads(LONGEST, Period(row));
         row += 1;
     }
 }

@@ -1,5 +1,5 @@
--- `board::count_open` meets its contract. The invariant of its loop: the open pairs of the rows passed are counted. The measure is what is left of
--- the rows. Assumes nothing.
+-- `board::count_open` meets its contract. The invariant of its loop: the start is that of the row of p, and the open pairs of the rows passed are
+-- counted. The measure is what is left of the rows. Assumes nothing.
 use mathlib.Core.Path.{_≡_, refl, ap, _∙_}
 use mathlib.Core.List.{List}
 use Prim.Native.Nat.{ℕ, suc, _+_, _-_, _*_, _≤_}
@@ -11,22 +11,19 @@ use Rattle.abelian.specs.Periods.{heads, row}
 use Rattle.abelian.specs.Trackers.{boardSize}
 use Rattle.abelian.proofs.Counts.{count-le-length}
 use Rattle.board.specs.Places.{rowStart, isOpen}
-use Rattle.board.proofs.Rows.{openUpTo, openUpTo-more, openUpTo-all, row-count, row-end, row-lent, row-short}
+use Rattle.board.proofs.Rows.{openUpTo, openUpTo-more, openUpTo-all, row-count, row-end, row-lent, row-short, AtRow, first-row, ends-within, next-at-row}
 use borrow.Author.Needs.{needs}
 use Rattle.board.proofs.count_open.Statement.{statement}
 use Rattle.board.proofs.count_open.Tie as tie
 
 abbrev Inv-loop : tie.InvT-loop
-Inv-loop board n entries found₀ p₀ found p = (1 ≤ p) × (p ≤ suc n) × (found ≤ (p - 1) * longest) × (found ≡ length (openUpTo n board (p - 1)))
+Inv-loop board n entries found₀ start₀ p₀ found start p = AtRow n p start × (found ≤ (p - 1) * longest) × (found ≡ length (openUpTo n board (p - 1)))
 
 abbrev μ-loop : tie.MeasureT-loop
-μ-loop board n entries found₀ p₀ found p = suc n - p
+μ-loop board n entries found₀ start₀ p₀ found start p = suc n - p
 
 loop-holds : tie.Need-loop-holds Inv-loop μ-loop
-loop-holds c = (omega arith, omega arith, omega arith, refl)
-
-row-start-requires : tie.Need-row-start-requires Inv-loop μ-loop
-row-start-requires c κs = omega arith
+loop-holds c = (first-row (c .before .args .n), omega arith, refl)
 
 row-heads-requires : tie.Need-row-heads-requires Inv-loop μ-loop
 row-heads-requires c κs = omega arith
@@ -34,7 +31,7 @@ row-heads-requires c κs = omega arith
 -- the row lies on the board, and begins and ends by the rule
 module _ (c : tie.After-row-heads Inv-loop μ-loop) where
   abbrev at-loop : tie.At-loop Inv-loop μ-loop
-  at-loop = c .before .before .before
+  at-loop = c .before .before
 
   abbrev n : ℕ
   n = at-loop .before .before .args .n
@@ -42,11 +39,14 @@ module _ (c : tie.After-row-heads Inv-loop μ-loop) where
   abbrev p : ℕ
   p = at-loop .loop .p
 
-  on-board : rowStart p + heads n p ≤ boardSize
-  on-board = row-end n p (at-loop .loop .inv .0) (c .before .before .loop-test .taken) (at-loop .before .before .pre)
+  taken : p ≤ n
+  taken = omega (arith, c .before .loop-test .taken)
 
-  begins : c .before .row-start .result ≡ rowStart p
-  begins = c .before .row-start .ensures
+  on-board : rowStart p + heads n p ≤ boardSize
+  on-board = row-end n p (at-loop .loop .inv .0 .from) taken (at-loop .before .before .pre)
+
+  begins : at-loop .loop .start ≡ rowStart p
+  begins = at-loop .loop .inv .0 .begins
 
   has : c .row-heads .result ≡ heads n p
   has = c .row-heads .ensures
@@ -55,7 +55,7 @@ module _ (c : tie.After-row-heads Inv-loop μ-loop) where
   entries = part (at-loop .before .before .args .board .now) (rowStart p) (heads n p)
 
   short : length entries ≤ longest
-  short = row-short (at-loop .before .before .args .board .now) n p (c .before .before .loop-test .taken) (at-loop .before .before .pre)
+  short = row-short (at-loop .before .before .args .board .now) n p taken (at-loop .before .before .pre)
 
 add-end : tie.Need-add-end Inv-loop μ-loop
 unfolding boardSize
@@ -84,11 +84,19 @@ small c = let r = c .before .before in omega (arith, zeros c, count-le-length 0 
 
 add-found : tie.Need-add-found Inv-loop μ-loop
 unfolding longest
-add-found c = omega (arith, small c, at-loop (c .before .before) .loop .inv .2, at-loop (c .before .before) .before .before .pre)
+add-found c = omega (arith, small c, at-loop (c .before .before) .loop .inv .1, at-loop (c .before .before) .before .before .pre)
+
+row-heads-requires-2 : tie.Need-row-heads-requires-2 Inv-loop μ-loop
+unfolding longest
+row-heads-requires-2 c κs = let r = c .before .before in omega (arith, taken r, at-loop r .before .before .pre)
+
+add-start : tie.Need-add-start Inv-loop μ-loop
+unfolding longest boardSize
+add-start c = let r = c .before .before .before in omega (arith, ends-within (at-loop r .loop .inv .0) (taken r) (at-loop r .before .before .pre) (c .row-heads2 .ensures))
 
 add-p : tie.Need-add-p Inv-loop μ-loop
 unfolding longest
-add-p c = omega (arith, at-loop (c .before .before) .before .before .pre, c .before .before .before .before .loop-test .taken)
+add-p c = let r = c .before .before .before in omega (arith, at-loop r .before .before .pre, taken r)
 
 loop-less : tie.Need-loop-less Inv-loop μ-loop
 loop-less c = search needs
@@ -96,16 +104,14 @@ loop-less c = search needs
 loop-again : tie.Need-loop-again Inv-loop μ-loop
 unfolding longest boardSize
 loop-again c =
-    let r = c .before .before in
-    let start = at-loop r .before .before in
-    let board = start .args .board .now in
+    let r = c .before .before .before in
+    let board = at-loop r .before .before .args .board .now in
     let opened = keep (isOpen board) (row (n r) (p r)) in
-    let taken : p r ≤ n r = r .before .before .loop-test .taken in
     let e : p r + 1 - 1 ≡ p r = omega arith in
     let counted : length (openUpTo (n r) board (p r)) ≡ length (openUpTo (n r) board (p r - 1)) + length opened =
-    ap length (openUpTo-more (n r) board (p r) (at-loop r .loop .inv .0)) ∙ length-append (openUpTo (n r) board (p r - 1)) opened in
+    ap length (openUpTo-more (n r) board (p r) (at-loop r .loop .inv .0 .from)) ∙ length-append (openUpTo (n r) board (p r - 1)) opened in
     let open-count : length opened ≡ count 0 (entries r) = row-count board (n r) (p r) (omega (arith, on-board r)) in
-    (omega arith, omega arith, omega (arith, small c, at-loop r .loop .inv .2), rw e (omega (arith, counted, open-count, zeros c, at-loop r .loop .inv .3)))
+    (next-at-row (at-loop r .loop .inv .0) (taken r) (at-loop r .before .before .pre) (c .row-heads2 .ensures), omega (arith, small (c .before), at-loop r .loop .inv .1), rw e (omega (arith, counted, open-count, zeros (c .before), at-loop r .loop .inv .2)))
 
 returns : tie.Need-returns Inv-loop μ-loop
 unfolding boardSize
@@ -113,8 +119,8 @@ returns c =
     let start = c .before .before .before in
     let n = start .args .n in
     let board = start .args .board .now in
-    let e : c .before .loop .p - 1 ≡ n = omega arith in
-    c .before .loop .inv .3 ∙ ap (λ (m : ℕ). length (openUpTo n board m)) e ∙ ap length (openUpTo-all n board (start .pre) (omega arith))
+    let e : c .before .loop .p - 1 ≡ n = omega (arith, c .before .loop .inv .0 .to) in
+    c .before .loop .inv .2 ∙ ap (λ (m : ℕ). length (openUpTo n board m)) e ∙ ap length (openUpTo-all n board (start .pre) (omega arith))
 
 pub count-open-spec : {M : Type 1} → statement M
 count-open-spec =
@@ -123,7 +129,6 @@ count-open-spec =
     Inv-loop
     μ-loop
     loop-holds
-    row-start-requires
     row-heads-requires
     add-end
     sub-count-zeros
@@ -131,6 +136,8 @@ count-open-spec =
     part-count-zeros-end
     count-zeros-requires
     add-found
+    row-heads-requires-2
+    add-start
     add-p
     loop-less
     loop-again

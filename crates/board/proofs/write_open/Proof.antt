@@ -1,5 +1,5 @@
--- `board::write_open` meets its contract. The invariant of its loop: the words of the rows passed stand in the first places. The measure is what
--- is left of the rows. Assumes nothing.
+-- `board::write_open` meets its contract. The invariant of its loop: the start is that of the row, and the words of the rows passed stand in the
+-- first places. The measure is what is left of the rows. Assumes nothing.
 use mathlib.Core.Path.{_≡_, refl, ap, _∙_}
 use mathlib.Core.List.{List, _++_, map}
 use Prim.Native.Nat.{ℕ, suc, _+_, _-_, _≤_}
@@ -14,22 +14,19 @@ use Rattle.abelian.specs.Output.{periodWord, fill}
 use Rattle.abelian.specs.Trackers.{boardSize, openPairs}
 use Rattle.board.specs.Places.{rowStart, isOpen}
 use Rattle.board.specs.Rows.{rowWords}
-use Rattle.board.proofs.Rows.{openUpTo, openUpTo-more, openUpTo-rises, openUpTo-all, row-count, row-stored, row-end, row-lent, row-short}
+use Rattle.board.proofs.Rows.{openUpTo, openUpTo-more, openUpTo-rises, openUpTo-all, row-count, row-stored, row-end, row-lent, row-short, AtRow, first-row, ends-within, next-at-row}
 use borrow.Author.Needs.{needs}
 use Rattle.board.proofs.write_open.Statement.{statement}
 use Rattle.board.proofs.write_open.Tie as tie
 
 abbrev Inv-loop : tie.InvT-loop
-Inv-loop board n out₀ entries at₀ row₀ out at row = (1 ≤ row) × (row ≤ suc n) × (at ≡ length (openUpTo n board (row - 1))) × (out ≡ sets out₀ 0 (map periodWord (openUpTo n board (row - 1))))
+Inv-loop board n out₀ entries at₀ start₀ row₀ out at start row = AtRow n row start × (at ≡ length (openUpTo n board (row - 1))) × (out ≡ sets out₀ 0 (map periodWord (openUpTo n board (row - 1))))
 
 abbrev μ-loop : tie.MeasureT-loop
-μ-loop board n out₀ entries at₀ row₀ out at row = suc n - row
+μ-loop board n out₀ entries at₀ start₀ row₀ out at start row = suc n - row
 
 loop-holds : tie.Need-loop-holds Inv-loop μ-loop
-loop-holds c = (omega arith, omega arith, refl, refl)
-
-row-start-requires : tie.Need-row-start-requires Inv-loop μ-loop
-row-start-requires c κs = omega arith
+loop-holds c = (first-row (c .before .before .args .n), refl, refl)
 
 row-heads-requires : tie.Need-row-heads-requires Inv-loop μ-loop
 row-heads-requires c κs = omega arith
@@ -37,7 +34,7 @@ row-heads-requires c κs = omega arith
 -- the row lies on the board, and begins and ends by the rule
 module _ (c : tie.After-row-heads Inv-loop μ-loop) where
   abbrev at-loop : tie.At-loop Inv-loop μ-loop
-  at-loop = c .before .before .before
+  at-loop = c .before .before
 
   abbrev start : tie.Start Inv-loop μ-loop
   start = at-loop .before .before .before
@@ -51,17 +48,20 @@ module _ (c : tie.After-row-heads Inv-loop μ-loop) where
   abbrev p : ℕ
   p = at-loop .loop .row
 
-  on-board : rowStart p + heads n p ≤ boardSize
-  on-board = row-end n p (at-loop .loop .inv .0) (c .before .before .loop-test .taken) (start .pre .0)
+  taken : p ≤ n
+  taken = omega (arith, c .before .loop-test .taken)
 
-  begins : c .before .row-start .result ≡ rowStart p
-  begins = c .before .row-start .ensures
+  on-board : rowStart p + heads n p ≤ boardSize
+  on-board = row-end n p (at-loop .loop .inv .0 .from) taken (start .pre .0)
+
+  begins : at-loop .loop .start ≡ rowStart p
+  begins = at-loop .loop .inv .0 .begins
 
   has : c .row-heads .result ≡ heads n p
   has = c .row-heads .ensures
 
   -- the part that is lent is the row
-  lent : take (c .before .row-start .result + c .row-heads .result - c .before .row-start .result) (drop (c .before .row-start .result) board) ≡ part board (rowStart p) (heads n p)
+  lent : take (at-loop .loop .start + c .row-heads .result - at-loop .loop .start) (drop (at-loop .loop .start) board) ≡ part board (rowStart p) (heads n p)
   lent = row-lent board begins has
 
   fits : length board ≡ boardSize
@@ -70,11 +70,11 @@ module _ (c : tie.After-row-heads Inv-loop μ-loop) where
 
   row-open : length (openUpTo n board p) ≡ length (openUpTo n board (p - 1)) + count 0 (part board (rowStart p) (heads n p))
   row-open =
-      ap length (openUpTo-more n board p (at-loop .loop .inv .0)) ∙ length-append (openUpTo n board (p - 1)) (keep (isOpen board) (row n p))
+      ap length (openUpTo-more n board p (at-loop .loop .inv .0 .from)) ∙ length-append (openUpTo n board (p - 1)) (keep (isOpen board) (row n p))
       ∙ ap (λ (k : ℕ). length (openUpTo n board (p - 1)) + k) (row-count board n p (omega (arith, on-board, fits)))
 
   same-places : length (at-loop .loop .out) ≡ length (start .args .out .now)
-  same-places = ap length (at-loop .loop .inv .3) ∙ length-sets (start .args .out .now) 0 (map periodWord (openUpTo n board (p - 1)))
+  same-places = ap length (at-loop .loop .inv .2) ∙ length-sets (start .args .out .now) 0 (map periodWord (openUpTo n board (p - 1)))
 
 add-end : tie.Need-add-end Inv-loop μ-loop
 unfolding boardSize
@@ -92,34 +92,41 @@ part-write-row-end c = omega (arith, on-board c, begins c, has c)
 
 write-row-requires : tie.Need-write-row-requires Inv-loop μ-loop
 write-row-requires c κs =
-    let r = c .before .before in
-    let taken : p r ≤ n r = r .before .before .loop-test .taken in (
-      (omega (arith, ap length (lent r), row-short (board r) (n r) (p r) taken (start r .pre .0)), omega (arith, start r .pre .0)),
-      omega (arith, ap (count 0) (lent r), row-open r, openUpTo-rises (n r) (board r) taken, ap length (openUpTo-all (n r) (board r) (start r .pre .0) (fits r)), start r .pre .1, same-places r, at-loop r .loop .inv .2),
+    let r = c .before .before in (
+      (omega (arith, ap length (lent r), row-short (board r) (n r) (p r) (taken r) (start r .pre .0)), omega (arith, start r .pre .0)),
+      omega (arith, ap (count 0) (lent r), row-open r, openUpTo-rises (n r) (board r) (taken r), ap length (openUpTo-all (n r) (board r) (start r .pre .0) (fits r)), start r .pre .1, same-places r, at-loop r .loop .inv .1),
     )
+
+row-heads-requires-2 : tie.Need-row-heads-requires-2 Inv-loop μ-loop
+unfolding longest
+row-heads-requires-2 c κs = let r = c .before .before .before .before .before in omega (arith, taken r, start r .pre .0)
+
+add-start : tie.Need-add-start Inv-loop μ-loop
+unfolding longest boardSize
+add-start c = let r = c .before .before .before .before .before .before in omega (arith, ends-within (at-loop r .loop .inv .0) (taken r) (start r .pre .0) (c .row-heads2 .ensures))
 
 add-row : tie.Need-add-row Inv-loop μ-loop
 unfolding longest
-add-row c = let r = c .before .before .before .before .before in omega (arith, r .before .before .loop-test .taken, start r .pre .0)
+add-row c = let r = c .before .before .before .before .before .before in omega (arith, taken r, start r .pre .0)
 
 loop-less : tie.Need-loop-less Inv-loop μ-loop
-loop-less c = let r = c .before .before .before .before .before in omega (arith, r .before .before .loop-test .taken)
+loop-less c = let r = c .before .before .before .before .before .before in omega (arith, taken r)
 
 loop-again : tie.Need-loop-again Inv-loop μ-loop
+unfolding longest
 loop-again c =
-    let r = c .before .before .before .before .before in
-    let w = c .before .before .write-row in
+    let r = c .before .before .before .before .before .before in
+    let w = c .before .before .before .write-row in
     let e : p r + 1 - 1 ≡ p r = omega arith in (
-      omega arith,
-      omega (arith, r .before .before .loop-test .taken),
-      rw e (omega (arith, w .ensures .0, ap (count 0) (lent r), row-open r, at-loop r .loop .inv .2)),
-      rw e (w .ensures .1 ∙ ap (λ (es : List ℕ). sets (at-loop r .loop .out) (at-loop r .loop .at) (rowWords (p r) 0 es)) (lent r) ∙ row-stored (n r) (board r) (start r .args .out .now) (at-loop r .loop .out) (at-loop r .loop .at) (p r) (at-loop r .loop .inv .0) (omega (arith, on-board r, fits r)) (at-loop r .loop .inv .2) (at-loop r .loop .inv .3)),
+      next-at-row (at-loop r .loop .inv .0) (taken r) (start r .pre .0) (c .row-heads2 .ensures),
+      rw e (omega (arith, w .ensures .0, ap (count 0) (lent r), row-open r, at-loop r .loop .inv .1)),
+      rw e (w .ensures .1 ∙ ap (λ (es : List ℕ). sets (at-loop r .loop .out) (at-loop r .loop .at) (rowWords (p r) 0 es)) (lent r) ∙ row-stored (n r) (board r) (start r .args .out .now) (at-loop r .loop .out) (at-loop r .loop .at) (p r) (at-loop r .loop .inv .0 .from) (omega (arith, on-board r, fits r)) (at-loop r .loop .inv .1) (at-loop r .loop .inv .2)),
     )
 
 same-length : tie.Need-same-length Inv-loop μ-loop
 same-length c =
     let t = c .before .before .before .before in
-    ap length (c .before .loop .inv .3) ∙ length-sets (t .args .out .now) 0 (map periodWord (openUpTo (t .args .n) (t .args .board .now) (c .before .loop .row - 1)))
+    ap length (c .before .loop .inv .2) ∙ length-sets (t .args .out .now) 0 (map periodWord (openUpTo (t .args .n) (t .args .board .now) (c .before .loop .row - 1)))
 
 returns : tie.Need-returns Inv-loop μ-loop
 unfolding boardSize fill
@@ -129,9 +136,9 @@ returns c =
     let board = t .args .board .now in
     let out = t .args .out .now in
     let words = map periodWord (openPairs n board) in
-    let e : c .before .loop .row - 1 ≡ n = omega arith in
+    let e : c .before .loop .row - 1 ≡ n = omega (arith, c .before .loop .inv .0 .to) in
     let all : openUpTo n board (c .before .loop .row - 1) ≡ openPairs n board = ap (openUpTo n board) e ∙ openUpTo-all n board (t .pre .0) (omega (arith, t .good)) in
-    c .before .loop .inv .3
+    c .before .loop .inv .2
     ∙ ap (λ (xs : List Pair). sets out 0 (map periodWord xs)) all
     ∙ sets-eq words out 0 (omega (arith, length-map (openPairs n board) periodWord, t .pre .1))
     ∙ ap (λ (k : ℕ). words ++ drop k out) (zero-add (length words))
@@ -143,13 +150,14 @@ write-open-spec =
     Inv-loop
     μ-loop
     loop-holds
-    row-start-requires
     row-heads-requires
     add-end
     sub-write-row
     part-write-row-start
     part-write-row-end
     write-row-requires
+    row-heads-requires-2
+    add-start
     add-row
     loop-less
     loop-again

@@ -1,11 +1,11 @@
-//! The write calls of two archives, this one and an older one. The script `rust/turns` has renamed the functions of both, luff_report to
+//! The calls on words and trackers of two archives, this one and an older one. The script `rust/turns` has renamed the functions of both, luff_report to
 //! after_luff_report and before_luff_report and so on, so that one program can link both.
 //!
 //! It is the one place of the checks with `unsafe`: the functions are declared and called here alone, with slices and fields that are lent
 //! for the call, as in `luffbutton::numbers`.
 #![allow(unsafe_code)]
 use checks::calls::Answer;
-use luffbutton::numbers::{Listed, Outcome, Replayed, Scaled, Wrote};
+use luffbutton::numbers::{Counted, Listed, Outcome, Replayed, Scaled, Wrote};
 use luffbutton::{Fields, BOARD, LONGEST};
 
 /// Declares functions that both archives have, with the same parameters, answers and layouts.
@@ -47,9 +47,17 @@ archives! {
     luff_list_squares(word: *const u8, n: usize, out: *mut u32, places: usize) -> Wrote;
     luff_list_runs(word: *const u8, n: usize, out: *mut u32, places: usize) -> Wrote;
     luff_report(word: *const u8, n: usize, out: *mut u32, places: usize) -> Wrote;
+    luff_count_plain(word: *const u8, n: usize) -> Counted;
+    luff_count_skipping(word: *const u8, n: usize) -> Counted;
+    luff_count_full(word: *const u8, n: usize) -> Counted;
+    luff_count_full_scaled(word: *const u8, n: usize) -> Counted;
+    luff_count_squares(word: *const u8, n: usize) -> Counted;
+    luff_count_runs(word: *const u8, n: usize) -> Counted;
+    luff_count_report(word: *const u8, n: usize) -> Counted;
     luff_tracker_add_fields(length: *mut usize, bytes: *mut Bytes, board: *mut Board, letter: u8) -> Outcome;
     luff_tracker_take_back_fields(length: *mut usize, bytes: *mut Bytes, board: *mut Board) -> Outcome;
     luff_tracker_list_fields(length: usize, bytes: *const Bytes, board: *const Board, out: *mut u32, places: usize) -> Wrote;
+    luff_tracker_count_fields(length: usize, bytes: *const Bytes, board: *const Board) -> Counted;
     luff_tracker_replay_fields(calls: *const u8, n: usize, out: *mut u32, places: usize, length: *mut usize, bytes: *mut Bytes, board: *mut Board) -> Replayed;
 }
 
@@ -95,6 +103,43 @@ where
     numbers.into()
 }
 
+/// A count call of an archive on a word.
+pub type CountCall = fn(&Archive, &[u8]) -> Counted;
+
+/// The count calls on a word, by name.
+pub const COUNTS: [(&str, CountCall); 7] = [
+    ("count_plain", |archive, word| {
+        count_by(archive.luff_count_plain, word)
+    }),
+    ("count_skipping", |archive, word| {
+        count_by(archive.luff_count_skipping, word)
+    }),
+    ("count_full", |archive, word| {
+        count_by(archive.luff_count_full, word)
+    }),
+    ("count_full_scaled", |archive, word| {
+        count_by(archive.luff_count_full_scaled, word)
+    }),
+    ("count_squares", |archive, word| {
+        count_by(archive.luff_count_squares, word)
+    }),
+    ("count_runs", |archive, word| {
+        count_by(archive.luff_count_runs, word)
+    }),
+    ("count_report", |archive, word| {
+        count_by(archive.luff_count_report, word)
+    }),
+];
+
+/// A function of an archive that counts something of a word.
+type CountFunction = unsafe extern "C" fn(*const u8, usize) -> Counted;
+
+fn count_by(function: CountFunction, word: &[u8]) -> Counted {
+    // SAFETY: `function` is one of an archive's that count something of a word (this function is private, and no other is handed to it),
+    // and the slice is valid for its length.
+    unsafe { function(word.as_ptr(), word.len()) }
+}
+
 /// The tracker's calls.
 impl Archive {
     pub fn add(&self, tracker: &mut Fields, letter: u8) -> Outcome {
@@ -114,6 +159,12 @@ impl Archive {
         let (places, out) = (out.len(), out.as_mut_ptr());
         // SAFETY: the fields are lent for reading, and the slice is valid for its length.
         unsafe { (self.luff_tracker_list_fields)(length, bytes, board, out, places) }
+    }
+
+    pub fn count(&self, tracker: &Fields) -> Counted {
+        let (length, bytes, board) = (tracker.length, &tracker.bytes, &tracker.board);
+        // SAFETY: the fields are lent for reading.
+        unsafe { (self.luff_tracker_count_fields)(length, bytes, board) }
     }
 
     pub fn replay(&self, tracker: &mut Fields, calls: &[u8], out: &mut [u32]) -> Replayed {

@@ -1,4 +1,4 @@
-//! Times the library's write calls beside those of an older archive, on the same words of 240 letters, in one run and in turns. The script
+//! Times the library's lists, counts and tracker calls beside those of an older archive, on the same words of 240 letters, in one run and in turns. The script
 //! `rust/turns` renames the functions of both archives, builds this with the feature `before` and runs it:
 //!
 //!     rust/turns OLD_ARCHIVE
@@ -8,7 +8,7 @@
 
 mod archives;
 
-use archives::{Archive, ListCall, BOTH, LISTS, REPORT};
+use archives::{Archive, CountCall, ListCall, BOTH, COUNTS, LISTS, REPORT};
 use checks::generator::{timed_words, Word};
 use checks::markdown::{header, row, three_digits};
 use checks::measure::{best, better, mean, on_copies, over_passes, repeated, Timed, Turn};
@@ -28,9 +28,12 @@ fn pass() -> Vec<Timed> {
         let needed = REPORT(&BOTH[0], word, &mut places()).written;
         time_list(REPORT, word, needed)
     }));
+    let count = |(name, count)| over_words(name, |word| time_count(count, word));
+    all.extend(COUNTS.into_iter().map(count));
     all.push(over_words("add of the last letter", time_add));
     all.push(over_words("take_back", time_take_back));
     all.push(over_words("list", time_tracker_list));
+    all.push(over_words("count", time_tracker_count));
     all.push(over_words("replay", time_replay));
     all
 }
@@ -72,6 +75,12 @@ fn time_list(list: ListCall, word: &[u8], places: usize) -> Vec<f64> {
         let out = &out;
         repeated(move || list(archive, black_box(word), black_box(&mut out.borrow_mut())))
     })
+}
+
+/// Times a count call.
+fn time_count(count: CountCall, word: &[u8]) -> Vec<f64> {
+    assert_same(word, |archive| count(archive, word));
+    time_both(|archive| repeated(move || count(archive, black_box(word))))
 }
 
 /// A tracker to which the letters were added, by this archive.
@@ -125,6 +134,15 @@ fn time_tracker_list(word: &[u8]) -> Vec<f64> {
     time_both(|archive| {
         let (tracker, out) = (&tracker, &out);
         repeated(move || archive.list(black_box(tracker), black_box(&mut out.borrow_mut())))
+    })
+}
+
+fn time_tracker_count(word: &[u8]) -> Vec<f64> {
+    let tracker = tracked(word);
+    assert_same(word, |archive| archive.count(&tracker));
+    time_both(|archive| {
+        let tracker = &tracker;
+        repeated(move || archive.count(black_box(tracker)))
     })
 }
 
