@@ -81,7 +81,7 @@ row-words board n p l =
     rw e at (heads-words board p 0 (heads n p) (omega arith))
 
 -- a row has as many open pairs as entries that are 0
-pub row-count : (board : List ℕ) (n p : ℕ) → rowStart p + heads n p ≤ length board → length (keep (isOpen board) (row n p)) ≡ count 0 (part board (rowStart p) (heads n p))
+row-count : (board : List ℕ) (n p : ℕ) → rowStart p + heads n p ≤ length board → length (keep (isOpen board) (row n p)) ≡ count 0 (part board (rowStart p) (heads n p))
 row-count board n p l =
     sym (length-map (keep (isOpen board) (row n p)) periodWord) ∙ ap length (sym (row-words board n p l)) ∙ length-rowWords p 0 (part board (rowStart p) (heads n p))
 
@@ -99,6 +99,13 @@ openUpTo-more n board (suc m) l =
     (ap (keep (isOpen board)) (each-last (row n) 1 m)
     ∙ keep-append (isOpen board) (each (upFrom 1 m) (row n)) (row n (1 + m))
     ∙ ap (λ (k : ℕ). openUpTo n board m ++ keep (isOpen board) (row n k)) f)
+
+-- which is as many open pairs more as the row has entries that are 0
+pub openUpTo-counts : (n : ℕ) (board : List ℕ) (p : ℕ) → 1 ≤ p → rowStart p + heads n p ≤ length board
+    → length (openUpTo n board p) ≡ length (openUpTo n board (p - 1)) + count 0 (part board (rowStart p) (heads n p))
+openUpTo-counts n board p l u =
+    let opened = keep (isOpen board) (row n p) in
+    omega (arith, ap length (openUpTo-more n board p l), length-append (openUpTo n board (p - 1)) opened, row-count board n p u)
 
 -- a row's words stored behind those of the rows before it
 pub row-stored : (n : ℕ) (board old out : List ℕ) (at p : ℕ) → 1 ≤ p → rowStart p + heads n p ≤ length board → at ≡ length (openUpTo n board (p - 1)) → out ≡ sets old 0 (map periodWord (openUpTo n board (p - 1)))
@@ -170,12 +177,12 @@ pub first-row : (n : ℕ) → AtRow n 1 0
 unfolding rowStart
 first-row n = record { from = omega arith; to = omega arith; begins = refl }
 
--- the next row begins where this one ends for the longest word, on the board or at its end
-module _ {n p start size : ℕ} (r : AtRow n p start) (l : p ≤ n) (u : n ≤ longest) (h : size ≡ heads longest p) where
-  pub ends-within : start + size ≤ boardSize
-  ends-within = omega (arith, r .begins, row-end longest p (r .from) (omega arith) (omega arith))
+-- its pairs for words of m letters lie on the board
+pub ends-within : {n m p start size : ℕ} → AtRow n p start → p ≤ m → m ≤ longest → size ≡ heads m p → start + size ≤ boardSize
+ends-within {n} {m} {p} r l u h = omega (arith, r .begins, row-end m p (r .from) l u)
 
-  pub next-at-row : AtRow n (p + 1) (start + size)
-  next-at-row =
-      let e : rowStart (suc p) ≡ rowStart p + heads longest p = next-row p (r .from) (omega arith) in
-      record { from = omega arith; to = omega arith; begins = rw add-one (omega (arith, r .begins)) }
+-- and the next row begins behind those for the longest word
+pub next-at-row : {n p start size : ℕ} → AtRow n p start → p ≤ n → n ≤ longest → size ≡ heads longest p → AtRow n (p + 1) (start + size)
+next-at-row {n} {p} r l u h =
+    let e : rowStart (suc p) ≡ rowStart p + heads longest p = next-row p (r .from) (omega arith) in
+    record { from = omega arith; to = omega arith; begins = rw add-one (omega (arith, r .begins)) }

@@ -4,14 +4,13 @@ use mathlib.Core.Path.{_≡_, refl, ap, _∙_}
 use mathlib.Core.List.{List}
 use Prim.Native.Nat.{ℕ, suc, _+_, _-_, _*_, _≤_}
 use native.Mathlib.Omega.{arith}
-use lib.ListN.{length, length-append}
+use lib.ListN.{length, take, drop}
 use Rattle.abelian.specs.Words.{longest, count, part}
-use Rattle.abelian.specs.Lists.{keep}
-use Rattle.abelian.specs.Periods.{heads, row}
+use Rattle.abelian.specs.Periods.{heads}
 use Rattle.abelian.specs.Trackers.{boardSize}
 use Rattle.abelian.proofs.Counts.{count-le-length}
-use Rattle.board.specs.Places.{rowStart, isOpen}
-use Rattle.board.proofs.Rows.{openUpTo, openUpTo-more, openUpTo-all, row-count, row-end, row-lent, row-short, AtRow, first-row, ends-within, next-at-row}
+use Rattle.board.specs.Places.{rowStart}
+use Rattle.board.proofs.Rows.{openUpTo, openUpTo-counts, openUpTo-all, row-end, row-lent, row-short, AtRow, first-row, ends-within, next-at-row}
 use borrow.Author.Needs.{needs}
 use Rattle.board.proofs.count_open.Statement.{statement}
 use Rattle.board.proofs.count_open.Tie as tie
@@ -28,7 +27,7 @@ loop-holds c = (first-row (c .before .args .n), omega arith, refl)
 row-heads-requires : tie.Need-row-heads-requires Inv-loop μ-loop
 row-heads-requires c κs = omega arith
 
--- the row lies on the board, and begins and ends by the rule
+-- the row lies on the board
 module _ (c : tie.After-row-heads Inv-loop μ-loop) where
   abbrev at-loop : tie.At-loop Inv-loop μ-loop
   at-loop = c .before .before
@@ -42,24 +41,25 @@ module _ (c : tie.After-row-heads Inv-loop μ-loop) where
   taken : p ≤ n
   taken = omega (arith, c .before .loop-test .taken)
 
-  on-board : rowStart p + heads n p ≤ boardSize
-  on-board = row-end n p (at-loop .loop .inv .0 .from) taken (at-loop .before .before .pre)
+  on-board : at-loop .loop .start + c .row-heads .result ≤ boardSize
+  on-board = ends-within (at-loop .loop .inv .0) taken (at-loop .before .before .pre) (c .row-heads .ensures)
 
-  begins : at-loop .loop .start ≡ rowStart p
-  begins = at-loop .loop .inv .0 .begins
+  abbrev board : List ℕ
+  board = at-loop .before .before .args .board .now
 
-  has : c .row-heads .result ≡ heads n p
-  has = c .row-heads .ensures
-
+  -- the part that is lent is the row
   abbrev entries : List ℕ
-  entries = part (at-loop .before .before .args .board .now) (rowStart p) (heads n p)
+  entries = part board (rowStart p) (heads n p)
+
+  lent : take (at-loop .loop .start + c .row-heads .result - at-loop .loop .start) (drop (at-loop .loop .start) board) ≡ entries
+  lent = row-lent board (at-loop .loop .inv .0 .begins) (c .row-heads .ensures)
 
   short : length entries ≤ longest
-  short = row-short (at-loop .before .before .args .board .now) n p taken (at-loop .before .before .pre)
+  short = row-short board n p taken (at-loop .before .before .pre)
 
 add-end : tie.Need-add-end Inv-loop μ-loop
 unfolding boardSize
-add-end c = omega (arith, on-board c, begins c, has c)
+add-end c = omega (arith, on-board c)
 
 sub-count-zeros : tie.Need-sub-count-zeros Inv-loop μ-loop
 sub-count-zeros c = search needs
@@ -69,14 +69,14 @@ part-count-zeros-start c = search needs
 
 part-count-zeros-end : tie.Need-part-count-zeros-end Inv-loop μ-loop
 unfolding boardSize
-part-count-zeros-end c = omega (arith, on-board c, begins c, has c)
+part-count-zeros-end c = omega (arith, on-board c)
 
 count-zeros-requires : tie.Need-count-zeros-requires Inv-loop μ-loop
-count-zeros-requires c κs = let r = c .before in omega (arith, ap length (row-lent (at-loop r .before .before .args .board .now) (begins r) (has r)), short r)
+count-zeros-requires c κs = let r = c .before in omega (arith, ap length (lent r), short r)
 
 -- the zeros of the row
 zeros : (c : tie.After-count-zeros Inv-loop μ-loop) → c .count-zeros .result ≡ count 0 (entries (c .before .before))
-zeros c = let r = c .before .before in c .count-zeros .ensures ∙ ap (count 0) (row-lent _ (begins r) (has r))
+zeros c = c .count-zeros .ensures ∙ ap (count 0) (lent (c .before .before))
 
 -- so there are at most as many as heads
 small : (c : tie.After-count-zeros Inv-loop μ-loop) → c .count-zeros .result ≤ longest
@@ -92,7 +92,10 @@ row-heads-requires-2 c κs = let r = c .before .before in omega (arith, taken r,
 
 add-start : tie.Need-add-start Inv-loop μ-loop
 unfolding longest boardSize
-add-start c = let r = c .before .before .before in omega (arith, ends-within (at-loop r .loop .inv .0) (taken r) (at-loop r .before .before .pre) (c .row-heads2 .ensures))
+add-start c =
+    let r = c .before .before .before in
+    let within : p r ≤ longest = omega (arith, taken r, at-loop r .before .before .pre) in
+    omega (arith, ends-within (at-loop r .loop .inv .0) within (omega arith) (c .row-heads2 .ensures))
 
 add-p : tie.Need-add-p Inv-loop μ-loop
 unfolding longest
@@ -105,13 +108,13 @@ loop-again : tie.Need-loop-again Inv-loop μ-loop
 unfolding longest boardSize
 loop-again c =
     let r = c .before .before .before in
-    let board = at-loop r .before .before .args .board .now in
-    let opened = keep (isOpen board) (row (n r) (p r)) in
     let e : p r + 1 - 1 ≡ p r = omega arith in
-    let counted : length (openUpTo (n r) board (p r)) ≡ length (openUpTo (n r) board (p r - 1)) + length opened =
-    ap length (openUpTo-more (n r) board (p r) (at-loop r .loop .inv .0 .from)) ∙ length-append (openUpTo (n r) board (p r - 1)) opened in
-    let open-count : length opened ≡ count 0 (entries r) = row-count board (n r) (p r) (omega (arith, on-board r)) in
-    (next-at-row (at-loop r .loop .inv .0) (taken r) (at-loop r .before .before .pre) (c .row-heads2 .ensures), omega (arith, small (c .before), at-loop r .loop .inv .1), rw e (omega (arith, counted, open-count, zeros (c .before), at-loop r .loop .inv .2)))
+    let counted : length (openUpTo (n r) (board r) (p r)) ≡ length (openUpTo (n r) (board r) (p r - 1)) + count 0 (entries r) =
+    openUpTo-counts (n r) (board r) (p r) (at-loop r .loop .inv .0 .from) (omega (arith, row-end (n r) (p r) (at-loop r .loop .inv .0 .from) (taken r) (at-loop r .before .before .pre))) in (
+      next-at-row (at-loop r .loop .inv .0) (taken r) (at-loop r .before .before .pre) (c .row-heads2 .ensures),
+      omega (arith, small (c .before), at-loop r .loop .inv .1),
+      rw e (omega (arith, counted, zeros (c .before), at-loop r .loop .inv .2)),
+    )
 
 returns : tie.Need-returns Inv-loop μ-loop
 unfolding boardSize

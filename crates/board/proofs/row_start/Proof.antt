@@ -16,11 +16,12 @@ le-product zero b l = omega arith
 le-product (suc a) b l = omega (arith, suc-mul a b)
 
 -- both factors are at most 122: half of the rows, and two
-product-fits : (a b : ℕ) → a ≤ 122 → b ≤ 122 → Fits w64 (a * b)
-product-fits a b l m = omega (arith, mul-le-mul l m)
+module _ (a b : ℕ) (l : a ≤ 122) (m : b ≤ 122) where
+  product-fits : Fits w64 (a * b)
+  product-fits = omega (arith, mul-le-mul l m)
 
-half-product : (a b : ℕ) → a ≤ 122 → b ≤ 122 → a * b / 2 ≤ 14520
-half-product a b l m = omega (arith, mul-le-mul l m)
+  half-product : a * b / 2 ≤ 14520
+  half-product = omega (arith, mul-le-mul l m)
 
 -- the two sides of the rule
 rising : (p : ℕ) → p ≤ 121 → (p * p - p) / 2 ≡ rowStart p

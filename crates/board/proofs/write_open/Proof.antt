@@ -5,16 +5,15 @@ use mathlib.Core.List.{List, _++_, map}
 use Prim.Native.Nat.{ℕ, suc, _+_, _-_, _≤_}
 use native.Mathlib.Nat.{zero-add}
 use native.Mathlib.Omega.{arith}
-use lib.ListN.{length, take, drop, length-append, length-map}
+use lib.ListN.{length, take, drop, length-map}
 use lib.Seq.{sets, sets-eq, length-sets}
-use Rattle.abelian.specs.Lists.{keep}
 use Rattle.abelian.specs.Words.{longest, count, part}
-use Rattle.abelian.specs.Periods.{Pair, heads, row}
+use Rattle.abelian.specs.Periods.{Pair, heads}
 use Rattle.abelian.specs.Output.{periodWord, fill}
 use Rattle.abelian.specs.Trackers.{boardSize, openPairs}
-use Rattle.board.specs.Places.{rowStart, isOpen}
+use Rattle.board.specs.Places.{rowStart}
 use Rattle.board.specs.Rows.{rowWords}
-use Rattle.board.proofs.Rows.{openUpTo, openUpTo-more, openUpTo-rises, openUpTo-all, row-count, row-stored, row-end, row-lent, row-short, AtRow, first-row, ends-within, next-at-row}
+use Rattle.board.proofs.Rows.{openUpTo, openUpTo-counts, openUpTo-rises, openUpTo-all, row-stored, row-end, row-lent, row-short, AtRow, first-row, ends-within, next-at-row}
 use borrow.Author.Needs.{needs}
 use Rattle.board.proofs.write_open.Statement.{statement}
 use Rattle.board.proofs.write_open.Tie as tie
@@ -31,7 +30,7 @@ loop-holds c = (first-row (c .before .before .args .n), refl, refl)
 row-heads-requires : tie.Need-row-heads-requires Inv-loop μ-loop
 row-heads-requires c κs = omega arith
 
--- the row lies on the board, and begins and ends by the rule
+-- the row lies on the board
 module _ (c : tie.After-row-heads Inv-loop μ-loop) where
   abbrev at-loop : tie.At-loop Inv-loop μ-loop
   at-loop = c .before .before
@@ -51,34 +50,29 @@ module _ (c : tie.After-row-heads Inv-loop μ-loop) where
   taken : p ≤ n
   taken = omega (arith, c .before .loop-test .taken)
 
-  on-board : rowStart p + heads n p ≤ boardSize
-  on-board = row-end n p (at-loop .loop .inv .0 .from) taken (start .pre .0)
-
-  begins : at-loop .loop .start ≡ rowStart p
-  begins = at-loop .loop .inv .0 .begins
-
-  has : c .row-heads .result ≡ heads n p
-  has = c .row-heads .ensures
+  on-board : at-loop .loop .start + c .row-heads .result ≤ boardSize
+  on-board = ends-within (at-loop .loop .inv .0) taken (start .pre .0) (c .row-heads .ensures)
 
   -- the part that is lent is the row
   lent : take (at-loop .loop .start + c .row-heads .result - at-loop .loop .start) (drop (at-loop .loop .start) board) ≡ part board (rowStart p) (heads n p)
-  lent = row-lent board begins has
+  lent = row-lent board (at-loop .loop .inv .0 .begins) (c .row-heads .ensures)
 
   fits : length board ≡ boardSize
   unfolding boardSize
   fits = omega (arith, start .good)
 
+  within : rowStart p + heads n p ≤ length board
+  within = omega (arith, row-end n p (at-loop .loop .inv .0 .from) taken (start .pre .0), fits)
+
   row-open : length (openUpTo n board p) ≡ length (openUpTo n board (p - 1)) + count 0 (part board (rowStart p) (heads n p))
-  row-open =
-      ap length (openUpTo-more n board p (at-loop .loop .inv .0 .from)) ∙ length-append (openUpTo n board (p - 1)) (keep (isOpen board) (row n p))
-      ∙ ap (λ (k : ℕ). length (openUpTo n board (p - 1)) + k) (row-count board n p (omega (arith, on-board, fits)))
+  row-open = openUpTo-counts n board p (at-loop .loop .inv .0 .from) within
 
   same-places : length (at-loop .loop .out) ≡ length (start .args .out .now)
   same-places = ap length (at-loop .loop .inv .2) ∙ length-sets (start .args .out .now) 0 (map periodWord (openUpTo n board (p - 1)))
 
 add-end : tie.Need-add-end Inv-loop μ-loop
 unfolding boardSize
-add-end c = omega (arith, on-board c, begins c, has c)
+add-end c = omega (arith, on-board c)
 
 sub-write-row : tie.Need-sub-write-row Inv-loop μ-loop
 sub-write-row c = search needs
@@ -88,7 +82,7 @@ part-write-row-start c = search needs
 
 part-write-row-end : tie.Need-part-write-row-end Inv-loop μ-loop
 unfolding boardSize
-part-write-row-end c = omega (arith, on-board c, begins c, has c)
+part-write-row-end c = omega (arith, on-board c)
 
 write-row-requires : tie.Need-write-row-requires Inv-loop μ-loop
 write-row-requires c κs =
@@ -103,7 +97,10 @@ row-heads-requires-2 c κs = let r = c .before .before .before .before .before i
 
 add-start : tie.Need-add-start Inv-loop μ-loop
 unfolding longest boardSize
-add-start c = let r = c .before .before .before .before .before .before in omega (arith, ends-within (at-loop r .loop .inv .0) (taken r) (start r .pre .0) (c .row-heads2 .ensures))
+add-start c =
+    let r = c .before .before .before .before .before .before in
+    let within : p r ≤ longest = omega (arith, taken r, start r .pre .0) in
+    omega (arith, ends-within (at-loop r .loop .inv .0) within (omega arith) (c .row-heads2 .ensures))
 
 add-row : tie.Need-add-row Inv-loop μ-loop
 unfolding longest
@@ -120,7 +117,7 @@ loop-again c =
     let e : p r + 1 - 1 ≡ p r = omega arith in (
       next-at-row (at-loop r .loop .inv .0) (taken r) (start r .pre .0) (c .row-heads2 .ensures),
       rw e (omega (arith, w .ensures .0, ap (count 0) (lent r), row-open r, at-loop r .loop .inv .1)),
-      rw e (w .ensures .1 ∙ ap (λ (es : List ℕ). sets (at-loop r .loop .out) (at-loop r .loop .at) (rowWords (p r) 0 es)) (lent r) ∙ row-stored (n r) (board r) (start r .args .out .now) (at-loop r .loop .out) (at-loop r .loop .at) (p r) (at-loop r .loop .inv .0 .from) (omega (arith, on-board r, fits r)) (at-loop r .loop .inv .1) (at-loop r .loop .inv .2)),
+      rw e (w .ensures .1 ∙ ap (λ (es : List ℕ). sets (at-loop r .loop .out) (at-loop r .loop .at) (rowWords (p r) 0 es)) (lent r) ∙ row-stored (n r) (board r) (start r .args .out .now) (at-loop r .loop .out) (at-loop r .loop .at) (p r) (at-loop r .loop .inv .0 .from) (within r) (at-loop r .loop .inv .1) (at-loop r .loop .inv .2)),
     )
 
 same-length : tie.Need-same-length Inv-loop μ-loop

@@ -77,10 +77,17 @@ fn time_list(list: ListCall, word: &[u8], places: usize) -> Vec<f64> {
     })
 }
 
-/// Times a count call.
+/// Times a call that writes nothing and changes nothing.
+fn time_call<T: PartialEq>(word: &[u8], call: impl Fn(&Archive) -> T) -> Vec<f64> {
+    assert_same(word, &call);
+    time_both(|archive| {
+        let call = &call;
+        repeated(move || call(archive))
+    })
+}
+
 fn time_count(count: CountCall, word: &[u8]) -> Vec<f64> {
-    assert_same(word, |archive| count(archive, word));
-    time_both(|archive| repeated(move || count(archive, black_box(word))))
+    time_call(word, |archive| count(archive, black_box(word)))
 }
 
 /// A tracker to which the letters were added, by this archive.
@@ -139,11 +146,7 @@ fn time_tracker_list(word: &[u8]) -> Vec<f64> {
 
 fn time_tracker_count(word: &[u8]) -> Vec<f64> {
     let tracker = tracked(word);
-    assert_same(word, |archive| archive.count(&tracker));
-    time_both(|archive| {
-        let tracker = &tracker;
-        repeated(move || archive.count(black_box(tracker)))
-    })
+    time_call(word, |archive| archive.count(black_box(&tracker)))
 }
 
 /// Times a replay that adds the word's letters and lists once.
