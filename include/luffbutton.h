@@ -11,9 +11,9 @@
  * The archive is for x86-64 Linux (System V calls, 64-bit size_t). It has twenty-five functions that can be linked, all with the prefix
  * luff_, and needs two of the C library: memcpy and memset. This header is for C99 or later and for C++.
  *
- * TERMS. A word is n bytes, each a letter: LUFF_FIRST_LETTER and the bytes behind it, LUFF_LETTERS in all, a to p. It has LUFF_LONGEST
+ * TERMS. A word is n bytes, each a letter: LUFF_FIRST_LETTER and the bytes behind it, LUFF_LETTERS in all, a to z. It has LUFF_LONGEST
  * letters at most and may have none. Positions count from 1. A stretch is letters of the word that stand side by side, or no letters; its
- * counts are the number of a's in it, the number of b's, and so on to p. A stretch is contained in another when none of its counts exceeds
+ * counts are the number of a's in it, the number of b's, and so on to z. A stretch is contained in another when none of its counts exceeds
  * the other's count of the same letter, and it has fewer letters.
  *
  * A pair (h, p), the length of a head and the length of a period, is in range for n when p >= 1, h < p and h + p <= n. A pair in range is
@@ -77,7 +77,7 @@
  *
  * STACK AND TIME. The macros LUFF_STACK_.. below limit the bytes of stack that a call takes beyond the word, the record, the places and the
  * tracker that it is lent. They are measured and not proved: examples/c/stack_use.c makes each call in several ways and fails above them.
- * How the time grows was measured from 120 to 240 letters on words of six kinds, that of luff_list_runs also on abba repeated, and that of
+ * How the time grows was measured from 120 to 240 letters on words of seven kinds, that of luff_list_runs also on abba repeated, and that of
  * luff_list_windows on records of 1,024 to 65,536 letters, as n to the power (docs/PERFORMANCE.md, which has the times too):
  *
  *     luff_list_plain, luff_list_skipping           1.8 to 2.1
@@ -109,11 +109,11 @@ extern "C" {
 #endif
 
 /* The version of this interface. It rises with each change of an answer or of a layout, and with each function that joins. */
-#define LUFF_VERSION 6
+#define LUFF_VERSION 7
 
 /* The byte of the first letter, a, and how many letters there are. */
 #define LUFF_FIRST_LETTER 97
-#define LUFF_LETTERS 16
+#define LUFF_LETTERS 26
 
 /* The longest word, and so the longest pattern, and a board's entries: one for each pair in range for it. */
 #define LUFF_LONGEST 240

@@ -184,7 +184,9 @@ int main(void)
     judge("abaababa", 1, 2);
     judge("abaababa", 0, 4);
     judge("aa", 1, 1);
+    judge("zya", 1, 2);
     list_periods("abba");
+    list_periods("aqa");
     list_full("abba");
     list_full("aabb");
     list_squares("abba");
@@ -193,6 +195,7 @@ int main(void)
     find_cover("abba");
     find_cover("aaab");
     find_cover("aBc");
+    find_cover("az{");
     report("abb", PLACES);
     report("abb", 4);
     report("abba", PLACES);
@@ -207,5 +210,6 @@ int main(void)
     track();
     replay("-ab!?abb-", PLACES);
     replay("aaaa", 5);
+    replay("qz`q{", PLACES);
     return 0;
 }

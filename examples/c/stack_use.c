@@ -19,10 +19,11 @@
 #define NOT_A_LETTER '?'
 
 /*
- * The words and the records: each is one of these blocks of letters, over and over. The word is also the pattern that is looked for in the
- * record, which has room for one letter too many.
+ * The words and the records: each is one of these blocks of letters, over and over; the last is all letters, written at the start. The word
+ * is also the pattern that is looked for in the record, which has room for one letter too many.
  */
-static const char *const blocks[] = {"a", "a", "ab", "abaababa", "abcdefghijklmnop"};
+static char all_letters[LUFF_LETTERS + 1];
+static const char *const blocks[] = {"a", "a", "ab", "abaababa", all_letters};
 static uint8_t word[LUFF_LONGEST];
 static uint8_t record[LUFF_LONGEST_RECORD + 1];
 
@@ -297,6 +298,9 @@ int main(int count, char **arguments)
     (void)arguments;
     if (stack == NULL) {
         return 1;
+    }
+    for (int i = 0; i < LUFF_LETTERS; i++) {
+        all_letters[i] = (char)(LUFF_FIRST_LETTER + i);
     }
     for (size_t i = 0; i < sizeof calls / sizeof calls[0]; i++) {
         size_t bytes = most_used(calls[i].make, stack);

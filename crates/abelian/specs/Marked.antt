@@ -5,7 +5,7 @@ use mathlib.Core.Bool.{Bool, _&&_}
 use mathlib.Core.List.{List, [], _∷_, map}
 use lib.ListN.{length, take, replicate}
 use lib.Dec.{eqb, ltb}
-use Rattle.abelian.specs.Lists.{pick, one, same, largest, each}
+use Rattle.abelian.specs.Lists.{pick, one, same, largest, each, upFrom}
 use Rattle.abelian.specs.Words.{alphabetSize, firstLetter, longest}
 use Rattle.abelian.specs.Periods.{Pair, pair, pairs}
 use Rattle.abelian.specs.Output.{periodWord, squareWord, windowWord}
@@ -252,6 +252,32 @@ abbaab = a ∷ b ∷ b ∷ a ∷ a ∷ b ∷ []
 abbrev aboveRecords : List ℕ
 aboveRecords = replicate 65537 a
 
+-- the letters that C-16's rows name, and its word of all letters; they are given by their bytes, so that no row follows the alphabet's size
+abbrev q : ℕ
+q = 113
+
+abbrev r : ℕ
+r = 114
+
+abbrev y : ℕ
+y = 121
+
+abbrev z : ℕ
+z = 122
+
+abbrev alphabet : List ℕ
+alphabet = upFrom a 26
+
+abbrev aqa : List ℕ
+aqa = a ∷ q ∷ a ∷ []
+
+-- words whose blocks of two letters differ in q and r alone, and in y and z alone
+abbrev aqar : List ℕ
+aqar = a ∷ q ∷ a ∷ r ∷ []
+
+abbrev ayaz : List ℕ
+ayaz = a ∷ y ∷ a ∷ z ∷ []
+
 -- Rows of document 02.
 unfoldable pub requested : List Row
 requested =
@@ -324,4 +350,27 @@ requested =
     (2147581956 ∷ 805339139 ∷ 805404673 ∷ 268468224 ∷ 268484609 ∷ 268484610 ∷ 268500992 ∷ 268500993 ∷ 268500994 ∷ 268517376 ∷ 268517377
     ∷ 268533760 ∷ 536887298 ∷ 536903681 ∷ 536903683 ∷ [])
     ∷ reportIs [] (2147483648 ∷ [])
+    -- C-16: `aqa` is read; 97 and 122 pass, 96 and 123 do not
+    ∷ periodsAre aqa (pair 0 2 ∷ pair 1 2 ∷ pair 0 3 ∷ [])
+    ∷ reportIs aqa (2147532802 ∷ 805355521 ∷ 268468224 ∷ 268468225 ∷ 268484608 ∷ [])
+    ∷ tracks (then (then freshTracker a) z) (a ∷ z ∷ 0 ∷ []) (pair 0 1) 2 (pair 0 2 ∷ [])
+    ∷ refuses (adding freshTracker 96 .answer) 2 1 []
+    ∷ refuses (adding freshTracker 123 .answer) 2 1 []
+    ∷ refuses (plainListing (a ∷ z ∷ 123 ∷ []) (5 ∷ [])) 2 3 (5 ∷ [])
+    ∷ refuses (windowCount (z ∷ []) (z ∷ 96 ∷ [])) 2 2 []
+    -- a word of all letters
+    ∷ periodsAre alphabet (pair 0 26 ∷ [])
+    ∷ trialsAre alphabet 182 26
+    ∷ scaledBy alphabet 26 1
+    -- blocks that differ in q and r alone, or in y and z alone, are told apart, and those that do not differ are not
+    ∷ periodsAre aqar (pair 1 3 ∷ pair 0 4 ∷ [])
+    ∷ squaresAre aqar []
+    ∷ runsAre aqar []
+    ∷ windowsAre (q ∷ a ∷ []) aqar (1 ∷ 2 ∷ [])
+    ∷ judgedNo aqar (pair 0 2) 2 q
+    ∷ judgedNo ayaz (pair 0 2) 2 y
+    ∷ squaresAre (r ∷ q ∷ q ∷ r ∷ []) (squareWord 1 2 ∷ squareWord 2 1 ∷ [])
+    -- the last letter in a head and in a tail
+    ∷ judgedNo (z ∷ y ∷ a ∷ []) (pair 1 2) 0 z
+    ∷ judgedNo (a ∷ y ∷ z ∷ []) (pair 0 2) 2 z
     ∷ []

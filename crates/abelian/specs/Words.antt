@@ -8,7 +8,7 @@ use Rattle.abelian.specs.Lists.{pick, one, upFrom, sum}
 
 -- How many letters there are: the one place of the definitions that names the number.
 unfoldable pub alphabetSize : ℕ
-alphabetSize = 16
+alphabetSize = 26
 
 -- The byte of the letter a, from which the letters go up.
 unfoldable pub firstLetter : ℕ

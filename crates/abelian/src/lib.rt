@@ -4,7 +4,7 @@ ghost use mathlib.Core.Path.{_≡_};
 ghost use Rattle.abelian.specs.Refusals.{numberOf, valueOf};
 
 // How many letters there are: the one place of the code that names the number.
-pub const LETTERS: usize = 16;
+pub const LETTERS: usize = 26;
 
 // The byte of the letter a, from which the letters go up.
 pub const FIRST_LETTER: u8 = 97;

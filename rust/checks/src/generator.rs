@@ -1,6 +1,6 @@
 //! Random words and choices for tests and benchmarks. The same seed gives the same words on every machine.
 use crate::reference::Pair;
-use luffbutton::{Head, Period, FIRST_LETTER};
+use luffbutton::{Head, Period, FIRST_LETTER, LETTERS};
 
 /// A generator of 64-bit numbers: a counter that rises by a fixed odd step, scrambled (Steele, Lea, Flood: SplitMix, 2014).
 pub struct Generator {
@@ -86,6 +86,11 @@ impl Generator {
     }
 }
 
+/// n letters, each one of the first k by chance: the same ones for the same n and k.
+pub fn random(n: usize, k: usize) -> Vec<u8> {
+    Generator::new(k as u64).uniform(n, k)
+}
+
 /// The first n letters of the Fibonacci word abaababa...
 pub fn fibonacci(n: usize) -> Vec<u8> {
     let (mut shorter, mut word) = (vec![FIRST_LETTER + 1], vec![FIRST_LETTER]);
@@ -115,17 +120,18 @@ pub fn abba(n: usize) -> Vec<u8> {
 /// A word of n letters.
 pub type Word = fn(usize) -> Vec<u8>;
 
-/// The kinds of words on which calls are timed.
-pub const TIMED_WORDS: [(&str, Word); 6] = [
+/// The kinds of words on which calls are timed. The last is of all letters.
+pub const TIMED_WORDS: [(&str, Word); 7] = [
     ("one letter", |n| vec![FIRST_LETTER; n]),
     ("two by turns", alternating),
     ("Fibonacci", fibonacci),
-    ("random of 2", |n| Generator::new(2).uniform(n, 2)),
-    ("random of 4", |n| Generator::new(4).uniform(n, 4)),
-    ("random of 16", |n| Generator::new(16).uniform(n, 16)),
+    ("random of 2", |n| random(n, 2)),
+    ("random of 4", |n| random(n, 4)),
+    ("random of 16", |n| random(n, 16)),
+    ("random of 26", |n| random(n, LETTERS)),
 ];
 
-/// The words on which a call is timed: the six, and for runs also one that has many.
+/// The words on which a call is timed: these, and for runs also one that has many.
 pub fn timed_words(call: &str) -> Vec<(&'static str, Word)> {
     let mut words = TIMED_WORDS.to_vec();
     if call.ends_with("_runs") {

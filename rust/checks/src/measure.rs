@@ -18,7 +18,8 @@ const TURN: Duration = Duration::from_micros(40);
 /// A contender's turn: the microseconds of one call.
 pub type Turn<'a> = Box<dyn FnMut() -> f64 + 'a>;
 
-/// Times of one kind of call: for each word, or pattern and record, and each size, a time for each contender, the library's first.
+/// Times of one kind of call: for each word, or pattern and record, and each size, a time for each contender, the library's first. A contender
+/// that does not read a word has no time there; it stands behind those that do.
 pub struct Timed {
     pub call: &'static str,
     pub contenders: Vec<&'static str>,
@@ -42,13 +43,11 @@ impl Timed {
         mean(times)
     }
 
-    /// The geometric mean over the words of how many times a contender's time the library takes at a size.
+    /// The geometric mean over the words of how many times a contender's time the library takes at a size. Words that the contender has no
+    /// time of do not count.
     pub fn ratio(&self, size: usize, contender: usize) -> f64 {
-        let ratios = self
-            .words
-            .iter()
-            .map(|(_, sizes)| sizes[size][0] / sizes[size][contender]);
-        mean(ratios)
+        let times = self.words.iter().map(|(_, sizes)| &sizes[size]);
+        mean(times.filter_map(|times| Some(times[0] / times.get(contender)?)))
     }
 }
 

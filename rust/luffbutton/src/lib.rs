@@ -3,7 +3,7 @@
 //! finds the anagram windows of a pattern ([`list_windows`]): the stretches with the pattern's letters, each as often, in any order. This
 //! crate is a safe interface over the proved library's C interface; the header `include/luffbutton.h` defines the terms.
 //!
-//! A word is a slice of letters, the bytes `a` to `p`, [`LONGEST`] at most; a pattern is a word of one letter or more, and a record is a
+//! A word is a slice of letters, the bytes `a` to `z`, [`LONGEST`] at most; a pattern is a word of one letter or more, and a record is a
 //! slice of letters, [`LONGEST_RECORD`] at most. Every call takes any input; what it cannot do it refuses, with a reason of its own type
 //! ([`Refusal`]). A refused call changes nothing; only a [`Tracker::replay`] whose list is refused has still made its calls. Heads and
 //! periods are types of their own, answers are enums and structs, and a tracker is made and changed by its calls alone. Nothing is

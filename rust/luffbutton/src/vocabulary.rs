@@ -1,7 +1,7 @@
 //! The sizes, and the types that all calls share.
 
 /// How many letters there are.
-pub const LETTERS: usize = 16;
+pub const LETTERS: usize = 26;
 
 /// The byte of the letter a, from which the letters go up.
 pub const FIRST_LETTER: u8 = b'a';

@@ -3,9 +3,8 @@
 use super::{
     differs, exceeds, heads, holds, index, pairs_in_range, period_word, prefix_counts, word_refusal,
 };
-use super::{write_with_trials, Row};
+use super::{write_with_trials, Row, NONE};
 use crate::calls::Answer;
-use luffbutton::LETTERS;
 
 /// All Abelian periods: every pair in range is tested by differences of prefix counts.
 pub fn list_brute_force(word: &[u8], out: &mut [u32]) -> Answer {
@@ -42,11 +41,8 @@ pub fn list_counting_anew(word: &[u8], out: &mut [u32]) -> Answer {
     write_with_trials(&found, out, pairs_in_range(n))
 }
 
-/// The counts of no letters.
-const NONE: Row = [0; LETTERS];
-
 fn count(stretch: &[u8]) -> Row {
-    let mut row = [0; LETTERS];
+    let mut row = NONE;
     for &letter in stretch {
         row[index(letter)] += 1;
     }

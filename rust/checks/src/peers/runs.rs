@@ -2,9 +2,9 @@
 //! repetitions by going through its rows and marking their squares; and the hands of each from the last hand at the same center. What a
 //! hand is contained in is taken by C-11's words, since the paper has some ranges one letter too long.
 use super::squares::slide;
-use super::{index, word_refusal, write, Row};
+use super::{index, word_refusal, write, Row, NONE};
 use crate::calls::Answer;
-use luffbutton::{BOUND_RUNS, LETTERS, LONGEST};
+use luffbutton::{BOUND_RUNS, LONGEST};
 
 /// An entry of the array L.
 #[derive(Clone, Copy, PartialEq, Eq)]
@@ -91,7 +91,7 @@ impl Hands<'_> {
         let none = Hand {
             block: 0,
             length: 0,
-            room: [0; LETTERS],
+            room: NONE,
         };
         Hands {
             word,

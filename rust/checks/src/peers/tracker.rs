@@ -1,9 +1,9 @@
 //! The tracker's add in plain Rust, in place: once with the library's contract, for any tracker, and once as document 004's on-line
 //! algorithm (Figure 8), which trusts that its own calls made the tracker.
 use super::{between, differs, exceeds, heads, holds, index, is_letter, prefix_counts};
-use super::{Counts, Row};
+use super::{Counts, Row, NONE};
 use crate::calls::Answer;
-use luffbutton::{Fields, BOARD, LETTERS, LONGEST};
+use luffbutton::{Fields, BOARD, LONGEST};
 
 /// Add by fields, as document 01 has it for every tracker: each entry 0 in range is tested anew.
 pub fn add_in_place(tracker: &mut Fields, letter: u8) -> Answer {
@@ -49,7 +49,7 @@ impl OnLine {
             length: 0,
             bytes: [0; LONGEST],
             board: [0; BOARD],
-            counts: [[0; LETTERS]; LONGEST + 1],
+            counts: [NONE; LONGEST + 1],
         }
     }
 

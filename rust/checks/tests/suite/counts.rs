@@ -4,15 +4,12 @@
 use crate::records::{read, read_runs, Answered, Call, CallsRecord, WordRecord};
 use crate::support::{assert_count_and_list_agree, assert_same_fields, seeded, shown, Shown};
 use crate::support::{damage, not_a_letter, patterns_for, shown_windows};
-use crate::support::{step, tracked, COUNT_CALLS, LIST_CALLS};
+use crate::support::{step, tracked, words_of_each_kind, BOTH, COUNT_CALLS, LIST_CALLS};
 use checks::calls::{Answer, Calls};
 use checks::generator::{abba, alternating, fibonacci, Generator};
 use checks::library::Library;
 use checks::reference::Reference;
 use luffbutton::{FIRST_LETTER, LETTERS, LONGEST, LONGEST_RECORD};
-
-/// The library and the second implementation.
-const BOTH: [&dyn Calls; 2] = [&Library, &Reference];
 
 /// The counts are named after the list calls beside which they stand.
 #[test]
@@ -109,7 +106,7 @@ fn vectors_of_trackers() {
     for calls in BOTH {
         let histories = counts_among_calls_agree(calls, &records.histories);
         let made = counts_among_calls_agree(calls, &records.made);
-        assert_eq!((histories, made), (225, 30));
+        assert_eq!((histories, made), (223, 24));
     }
 }
 
@@ -153,18 +150,12 @@ fn compare(word: &[u8], generator: &mut Generator) -> usize {
     number
 }
 
-/// One word of each kind of the generator's.
-fn words(generator: &mut Generator, n: usize, k: usize) -> [Vec<u8>; 3] {
-    let (uniform, (cyclic, _)) = (generator.uniform(n, k), generator.cyclic(n, k));
-    [uniform, cyclic, generator.near_miss(n, k)]
-}
-
 #[test]
 fn random_words() {
     let mut generator = seeded(120);
     for n in (1..=40).chain([97, 121, 239, LONGEST]) {
         for k in [1, 2, 3, 5, LETTERS] {
-            for word in words(&mut generator, n, k) {
+            for word in words_of_each_kind(&mut generator, n, k) {
                 assert_eq!(compare(&word, &mut generator), 0);
             }
         }
@@ -186,7 +177,7 @@ fn words_with_many_cycles() {
 fn damaged_words() {
     let mut generator = seeded(122);
     for n in (1..=30).chain([120, 239, LONGEST, LONGEST + 1, LONGEST + 2, 256, 481, 1000]) {
-        for mut word in words(&mut generator, n, 3) {
+        for mut word in words_of_each_kind(&mut generator, n, 3) {
             let too_long = usize::from(n > LONGEST);
             assert_eq!(compare(&word, &mut generator), too_long);
             for _ in 0..1 + generator.below(3) {

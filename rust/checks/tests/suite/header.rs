@@ -243,6 +243,20 @@ fn sizes() {
     assert_eq!(number("LUFF_CALL_CLEAR"), usize::from(CLEAR));
 }
 
+/// The header and the Rust crate's page name the first letter and the last.
+#[test]
+fn letters() {
+    let [first, last] = [0, LETTERS - 1].map(|place| char::from(FIRST_LETTER + place as u8));
+    let header = [
+        format!(" LUFF_LETTERS in all, {first} to {last}. "),
+        format!(" the number of {first}'s in it, the number of b's, and so on to {last}. "),
+    ];
+    for text in header {
+        assert!(HEADER.replace("\n * ", " ").contains(&text), "{text}");
+    }
+    assert!(PAGE.contains(&format!(" the bytes `{first}` to `{last}`, ")));
+}
+
 /// The limits on stack that the Rust crate's page gives are the header's: one for any call, and one for a call on a tracker. Counts have
 /// none of their own.
 #[test]

@@ -20,6 +20,11 @@ fn verdicts() {
         letter: b'a',
     };
     assert_eq!(judge(b"abaababa", Head(0), Period(4)), Ok(no));
+    let no = Verdict::No {
+        block: 0,
+        letter: b'z',
+    };
+    assert_eq!(judge(b"zya", Head(1), Period(2)), Ok(no));
     assert_eq!(
         judge(b"aa", Head(1), Period(1)),
         Err(Refusal::PairOutOfRange)
@@ -35,6 +40,7 @@ fn verdicts() {
 #[test]
 fn covers() {
     assert_eq!(find_cover(b"abba"), Ok(Cover::Length(2)));
+    assert_eq!(find_cover(b"aqa"), Ok(Cover::Length(2)));
     assert_eq!(find_cover(b"aaab"), Ok(Cover::Nothing));
     assert_eq!(find_cover(b"?"), Err(Refusal::NotALetter { position: 1 }));
 }

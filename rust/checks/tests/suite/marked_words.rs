@@ -1,9 +1,8 @@
 //! Document 01's marked words and edges, with the answers as it gives them, and for covers as request C-14 does, on the library and on the
 //! second implementation.
-use crate::support::{filled, lent, marks, shown, tracked, LIST_CALLS};
+use crate::support::{filled, lent, marks, shown, tracked, BOTH, LIST_CALLS};
 use checks::calls::{Answer, Calls};
-use checks::library::Library;
-use checks::reference::{cover_lengths, pairs, Pair, Reference};
+use checks::reference::{cover_lengths, pairs, Pair};
 use luffbutton::{Fields, Head, Period, FIRST_LETTER, LETTERS, LONGEST};
 
 /// Document 01's P8.
@@ -28,10 +27,6 @@ const P8_PERIODS: [(u32, u32); 16] = [
     (1, 7),
     (0, 8),
 ];
-
-fn both() -> [&'static dyn Calls; 2] {
-    [&Library, &Reference]
-}
 
 /// The numbers of a list call's words, lower and upper, as (h, p), (start, half) or (n / p, p).
 fn listed(call: impl FnOnce(&mut [u32]) -> Answer) -> (Answer, Vec<(u32, u32)>) {
@@ -71,7 +66,7 @@ fn entry(tracker: &Fields, h: usize, p: usize) -> u8 {
 
 #[test]
 fn p1_to_p4_and_p7() {
-    for calls in both() {
+    for calls in BOTH {
         assert_eq!(periods(calls, b""), []);
         assert_eq!(full(calls, b""), (vec![], 0, 0));
         assert_eq!(periods(calls, b"a"), [(0, 1)]);
@@ -94,7 +89,7 @@ fn covered(length: usize) -> Answer {
 
 #[test]
 fn p5_and_p6() {
-    for calls in both() {
+    for calls in BOTH {
         assert_eq!(periods(calls, b"abba"), [(0, 2), (0, 3), (1, 3), (0, 4)]);
         assert_eq!(
             listed(|out| calls.list_squares(b"abba", out)).1,
@@ -110,7 +105,7 @@ fn p5_and_p6() {
 /// The smallest cover length of this word is neither half of its letters nor the greatest of its cover lengths.
 #[test]
 fn the_cover_of_abbaba() {
-    for calls in both() {
+    for calls in BOTH {
         assert_eq!(calls.find_cover(b"abbaba"), covered(4));
     }
     assert_eq!(cover_lengths(b"abbaba"), [4, 5]);
@@ -118,7 +113,7 @@ fn the_cover_of_abbaba() {
 
 #[test]
 fn p8_periods_and_trials() {
-    for calls in both() {
+    for calls in BOTH {
         assert_eq!(periods(calls, P8), P8_PERIODS);
         assert_eq!(listed(|out| calls.list_plain(P8, out)).0.trials, 20);
         assert_eq!(listed(|out| calls.list_skipping(P8, out)).0.trials, 19);
@@ -127,7 +122,7 @@ fn p8_periods_and_trials() {
 
 #[test]
 fn p9_ended_lengths() {
-    for calls in both() {
+    for calls in BOTH {
         let tracker = tracked(calls, P8);
         let ended = [(0, 1, 2), (0, 2, 4), (0, 4, 7), (1, 3, 7)];
         for (h, p, m) in ended {
@@ -139,7 +134,7 @@ fn p9_ended_lengths() {
 
 #[test]
 fn p10_judge() {
-    for calls in both() {
+    for calls in BOTH {
         let due = Answer {
             block: 2,
             letter: usize::from(b'a'),
@@ -151,7 +146,7 @@ fn p10_judge() {
 
 #[test]
 fn p11_take_back() {
-    for calls in both() {
+    for calls in BOTH {
         let mut tracker = tracked(calls, b"abb");
         assert_eq!(entry(&tracker, 1, 2), 3);
         assert_eq!(calls.take_back(&mut tracker), Answer::default());
@@ -164,7 +159,7 @@ fn p11_take_back() {
 #[test]
 fn the_report_of_abb() {
     let due = [2147532800, 805355521, 268468224, 268484608, 536887298];
-    for calls in both() {
+    for calls in BOTH {
         let (answer, out) = lent(6, |out| calls.report(b"abb", out));
         assert_eq!((answer.number, answer.written), (0, 5));
         assert_eq!(out, filled(&due, 6));
@@ -178,7 +173,7 @@ fn the_report_of_abba() {
     let mut due = vec![2147549186, 805339138, 805371905];
     due.extend([(0, 2), (0, 3), (1, 3), (0, 4)].map(period));
     due.extend([536887298, 536903681]);
-    for calls in both() {
+    for calls in BOTH {
         let (answer, out) = lent(10, |out| calls.report(b"abba", out));
         assert_eq!(answer, Answer::of_words(9));
         assert_eq!(out, filled(&due, 10));
@@ -187,7 +182,7 @@ fn the_report_of_abba() {
 
 #[test]
 fn the_examples_of_refusals() {
-    for calls in both() {
+    for calls in BOTH {
         assert_eq!(calls.find_cover(&[b'a'; 241]), Answer::refused(1, 0));
         assert_eq!(calls.find_cover(b"aBc"), Answer::refused(2, 2));
         assert_eq!(
@@ -208,7 +203,7 @@ fn the_examples_of_refusals() {
 
 #[test]
 fn lengths_240_and_241() {
-    for calls in both() {
+    for calls in BOTH {
         for (name, call) in LIST_CALLS {
             let passes = lent(30000, |out| call(calls, &[b'b'; 240], out)).0;
             assert_eq!(passes.number, 0, "{name}");
@@ -221,7 +216,7 @@ fn lengths_240_and_241() {
 #[test]
 fn bytes_at_the_edges_of_the_alphabet() {
     let last = FIRST_LETTER + (LETTERS - 1) as u8;
-    for calls in both() {
+    for calls in BOTH {
         for byte in [FIRST_LETTER, last] {
             assert_eq!(periods(calls, &[byte]), [(0, 1)]);
             assert_eq!(calls.add(&mut Fields::zero(), byte), Answer::default());
@@ -236,7 +231,7 @@ fn bytes_at_the_edges_of_the_alphabet() {
 #[test]
 fn p8_fits_16_words_and_not_15() {
     let _shown = shown(P8);
-    for calls in both() {
+    for calls in BOTH {
         assert_eq!(lent(16, |out| calls.list_plain(P8, out)).0.written, 16);
         assert_eq!(
             lent(15, |out| calls.list_plain(P8, out)),

@@ -11,6 +11,7 @@ use checks::peers::{
 };
 use checks::reference::Reference;
 use luffbutton::{Fields, FIRST_LETTER, LETTERS, LONGEST, LONGEST_RECORD};
+use std::collections::HashSet;
 
 type Peer = fn(&[u8], &mut [u32]) -> Answer;
 
@@ -70,12 +71,16 @@ fn lists_of_words_with_many_cycles_and_of_bad_words() {
     compare(&[FIRST_LETTER; LONGEST + 1]);
 }
 
-/// The words on which calls are timed.
+/// The words on which calls are timed. The name of a random one says of how many letters it is.
 #[test]
 fn lists_of_timed_words() {
-    for (_, word) in TIMED_WORDS {
+    for (name, word) in TIMED_WORDS {
         for n in [30, 60, 120, 240] {
             compare(&word(n));
+        }
+        if let Some(letters) = name.strip_prefix("random of ") {
+            let found: HashSet<u8> = word(LONGEST).into_iter().collect();
+            assert_eq!(found.len().to_string(), letters);
         }
     }
 }
@@ -152,7 +157,7 @@ fn windows_of_long_patterns_and_records() {
 #[test]
 fn adds() {
     let mut generator = seeded(101);
-    for k in [1, 2, 4, 16] {
+    for k in [1, 2, 4, LETTERS] {
         let (word, _) = generator.cyclic(LONGEST + 1, k);
         let _shown = shown(&word);
         let (mut due, mut in_place) = (Fields::zero(), Fields::zero());

@@ -32,7 +32,7 @@ fn words_of_all_lengths(
 #[test]
 fn uniform_words() {
     let tried = words_of_all_lengths(1, 6, |generator, n, k| generator.uniform(n, k));
-    assert_eq!(tried, 5760);
+    assert_eq!(tried, 6 * MEDIUM * LETTERS);
 }
 
 /// Shuffled blocks repeated, with head and tail: the word has the Abelian period that it is made of, among others.
@@ -52,14 +52,14 @@ fn cyclic_words() {
         );
         word
     });
-    assert_eq!(tried, 9600);
+    assert_eq!(tried, 10 * MEDIUM * LETTERS);
 }
 
 /// Cyclic words with one letter changed.
 #[test]
 fn near_misses() {
     let tried = words_of_all_lengths(3, 10, |generator, n, k| generator.near_miss(n, k));
-    assert_eq!(tried, 9600);
+    assert_eq!(tried, 10 * MEDIUM * LETTERS);
 }
 
 #[test]

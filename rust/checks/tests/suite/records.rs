@@ -1,15 +1,20 @@
-//! Reads the records of base.txt, runs.txt, windows.txt and reports.txt in tests/data. Lines that begin with # say how they are written.
+//! Reads the records of wide.txt, letters.txt, runs.txt, windows.txt and reports.txt in tests/data. Lines that begin with # say how they are
+//! written.
 use checks::calls::Answer;
 use checks::reference::{pairs, Pair, Run};
 use luffbutton::{Fields, Head, Period, BOARD, LONGEST};
 use std::collections::HashMap;
 
-const TEXT: &str = include_str!("../data/base.txt");
+/// The outside vectors, and behind them rows of our own in the same form. The numbers of lines go on.
+const TEXT: &str = concat!(
+    include_str!("../data/wide.txt"),
+    include_str!("../data/letters.txt")
+);
 const RUNS: &str = include_str!("../data/runs.txt");
 const WINDOWS: &str = include_str!("../data/windows.txt");
 const REPORTS: &str = include_str!("../data/reports.txt");
 
-/// A word with everything that document 01 defines of it; the report's head is that of request C-14.
+/// A word with everything that document 01 defines of it, over the letters of request C-16; the report's head is that of C-14.
 pub struct WordRecord {
     pub word: Vec<u8>,
     pub plain_trials: usize,
@@ -87,7 +92,7 @@ pub struct ReportRecord {
     pub report: Vec<u32>,
 }
 
-/// All records of the file, by kind.
+/// All records of both files, by kind.
 #[derive(Default)]
 pub struct Records {
     pub words: Vec<WordRecord>,
@@ -267,7 +272,7 @@ fn made_record(lines: &[Line]) -> CallsRecord {
     }
 }
 
-/// The file's lines, a group for each record: a record begins at a line with one of the five first words.
+/// The lines of both files, a group for each record: a record begins at a line with one of the five first words.
 fn groups() -> Vec<Vec<Line>> {
     let mut groups: Vec<Vec<Line>> = Vec::new();
     for (number, line) in (1..).zip(TEXT.lines()) {
@@ -287,7 +292,7 @@ fn groups() -> Vec<Vec<Line>> {
     groups
 }
 
-/// Reads the whole file.
+/// Reads both files.
 pub fn read() -> Records {
     let mut records = Records::default();
     for lines in groups() {

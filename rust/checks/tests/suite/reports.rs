@@ -6,7 +6,7 @@ use checks::calls::{Answer, Calls};
 use checks::generator::{alternating, fibonacci};
 use checks::library::Library;
 use checks::reference::Reference;
-use luffbutton::{FIRST_LETTER, LONGEST, MOST_REPORT};
+use luffbutton::{FIRST_LETTER, LETTERS, LONGEST, MOST_REPORT};
 
 #[test]
 fn the_file_has_its_records() {
@@ -51,7 +51,7 @@ fn heads(word: &[u8]) -> [usize; 2] {
     })
 }
 
-/// Of each word in both files of vectors: the report's head has the length that the search for a cover answers, or 0 where it finds none.
+/// Of each word in the files of vectors: the report's head has the length that the search for a cover answers, or 0 where it finds none.
 #[test]
 fn heads_have_the_cover_length() {
     let reported = read_reports().into_iter().map(|record| record.word);
@@ -67,7 +67,7 @@ fn heads_have_the_cover_length() {
         covered += found.yes;
         uncovered += 1 - found.yes;
     }
-    assert_eq!((covered, uncovered), (195, 64));
+    assert_eq!((covered, uncovered), (198, 71));
 }
 
 /// Compares the report with the second implementation: on both sides of `MOST_REPORT` places, and on both sides of what it needs.
@@ -99,7 +99,7 @@ fn reports_of_words_with_many_cycles() {
 fn reports_of_random_words() {
     let mut generator = seeded(110);
     for n in [1, 7, 30, 60, 180, LONGEST] {
-        for k in [1, 2, 4, 16] {
+        for k in [1, 2, 4, LETTERS] {
             compare(&generator.uniform(n, k));
             compare(&generator.cyclic(n, k).0);
         }

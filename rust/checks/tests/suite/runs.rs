@@ -1,6 +1,6 @@
 //! Abelian runs (request C-11): the outside vectors, on the library and on the second implementation, and words with many runs.
 use crate::records::{read_runs, RunsRecord};
-use crate::support::{assert_lists, compare_list, lent, marks, shown, ListCall};
+use crate::support::{assert_lists, compare_list, lent, marks, shown, ListCall, BOTH};
 use checks::calls::{Answer, Calls};
 use checks::generator::{abba, alternating, fibonacci, repeated};
 use checks::library::Library;
@@ -32,10 +32,10 @@ fn due_words(record: &RunsRecord) -> Vec<u32> {
     all.map(|word| word as u32).collect()
 }
 
-fn vectors_agree(calls: &dyn Calls) {
-    for record in read_runs() {
+fn records_agree(calls: &dyn Calls, records: &[RunsRecord]) {
+    for record in records {
         let _shown = shown(&record.word);
-        let words = due_words(&record);
+        let words = due_words(record);
         let due = Answer::of_words(words.len());
         let call = |out: &mut [u32]| calls.list_runs(&record.word, out);
         assert_lists(call, &words, due, "list_runs");
@@ -44,18 +44,44 @@ fn vectors_agree(calls: &dyn Calls) {
 
 #[test]
 fn vectors_on_the_library() {
-    vectors_agree(&Library);
+    records_agree(&Library, &read_runs());
 }
 
 #[test]
 fn vectors_on_the_reference() {
-    vectors_agree(&Reference);
+    records_agree(&Reference, &read_runs());
+}
+
+/// The runs of words over letters that request C-16 adds, by hand. Blocks that differ in q and r alone make none; of rqqr there are those of
+/// abba, and of zyzyz two, of which one has a hand on its left and the other on its right.
+#[test]
+fn words_over_added_letters() {
+    let run = |(d, i, j, left, right)| Run {
+        d,
+        i,
+        j,
+        left,
+        right,
+    };
+    let table = [
+        (&b"aqa"[..], vec![]),
+        (b"aqaraq", vec![]),
+        (b"rqqr", vec![(1, 2, 3, 0, 0), (2, 1, 4, 0, 0)]),
+        (b"zyzyz", vec![(2, 1, 4, 0, 1), (2, 2, 5, 1, 0)]),
+    ];
+    let records = table.map(|(word, runs)| RunsRecord {
+        word: word.to_vec(),
+        runs: runs.into_iter().map(run).collect(),
+    });
+    for calls in BOTH {
+        records_agree(calls, &records);
+    }
 }
 
 /// The run of abaababa that the request gives, d = 3 and i = 1, stands fourth: behind one with d = 1 and two with d = 2.
 #[test]
 fn the_example_of_the_request() {
-    for calls in [&Library as &dyn Calls, &Reference] {
+    for calls in BOTH {
         let (answer, out) = lent(12, |out| calls.list_runs(b"abaababa", out));
         assert_eq!((answer.number, answer.written), (0, 10));
         assert_eq!(out[6..8], [1342226433, 1611005954]);

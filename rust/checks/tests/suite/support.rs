@@ -6,6 +6,9 @@ use checks::library::Library;
 use checks::reference::{is_letter, pairs, Reference};
 use luffbutton::{Fields, FIRST_LETTER, LETTERS, LONGEST, MOST_FULL, MOST_REPORT};
 
+/// The library and the second implementation.
+pub const BOTH: [&dyn Calls; 2] = [&Library, &Reference];
+
 /// The seed of every generator here; each test adds a number of its own.
 const SEED: u64 = 20_250_117;
 
@@ -115,6 +118,12 @@ pub fn damage(bytes: &mut [u8], generator: &mut Generator) {
         let at = generator.below(bytes.len());
         bytes[at] = not_a_letter(generator);
     }
+}
+
+/// One word of each kind of the generator's.
+pub fn words_of_each_kind(generator: &mut Generator, n: usize, k: usize) -> [Vec<u8>; 3] {
+    let (uniform, (cyclic, _)) = (generator.uniform(n, k), generator.cyclic(n, k));
+    [uniform, cyclic, generator.near_miss(n, k)]
 }
 
 /// Patterns for a record over the first k letters: one that has nothing to do with it; and, where it has letters, a part of it, the same

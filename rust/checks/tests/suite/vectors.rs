@@ -1,5 +1,5 @@
-//! The outside vectors of document 01, with the report's head of request C-14, each kind of record on the library and on the second
-//! implementation.
+//! The outside vectors of document 01 over the letters of request C-16, with the report's head of C-14, each kind of record on the library
+//! and on the second implementation; and rows of our own behind them, since no word of the vectors that is read has n or q.
 use crate::records::{read, Answered, Call, CallsRecord, WordRecord};
 use crate::support::{assert_lists, assert_same_fields, filled, lent, marks, places_enough};
 use crate::support::{shown, step, Shown, COUNT_CALLS, LIST_CALLS};
@@ -8,18 +8,19 @@ use checks::library::Library;
 use checks::reference::{cover_lengths, ended_length, pairs, Machine, Pair, Prefixes, Reference};
 use luffbutton::{Fields, Head, Period};
 
+/// Those of the outside vectors and ours.
 #[test]
-fn the_file_has_its_records() {
+fn the_files_have_their_records() {
     let records = read();
     let made_lists = |calls: &[CallsRecord]| calls.iter().map(|x| x.calls.len()).sum::<usize>();
-    assert_eq!(records.words.len(), 179);
-    assert_eq!(records.refused.len(), 23);
+    assert_eq!(records.words.len(), 179 + 10);
+    assert_eq!(records.refused.len(), 23 + 4);
     assert_eq!(records.ranges.len(), 8);
-    assert_eq!(records.histories.len(), 60);
-    assert_eq!(records.made.len(), 60);
+    assert_eq!(records.histories.len(), 60 + 2);
+    assert_eq!(records.made.len(), 60 + 6);
     assert_eq!(
         made_lists(&records.histories) + made_lists(&records.made),
-        1336
+        1263 + 52
     );
 }
 

@@ -3,14 +3,11 @@
 //! `counts`.
 use crate::records::read_windows;
 use crate::support::{assert_lists, damage, filled, lent, marks, not_a_letter, seeded, Shown};
-use crate::support::{patterns_for, shown_windows};
+use crate::support::{patterns_for, shown_windows, BOTH};
 use checks::calls::{Answer, Calls};
 use checks::library::Library;
 use checks::reference::{is_letter, windows, Reference};
 use luffbutton::{FIRST_LETTER, LETTERS, LONGEST, LONGEST_RECORD, MOST_WINDOWS};
-
-/// The library and the second implementation.
-const BOTH: [&dyn Calls; 2] = [&Library, &Reference];
 
 /// The second letter.
 const SECOND_LETTER: u8 = FIRST_LETTER + 1;
@@ -47,7 +44,7 @@ fn assert_refused(pattern: &[u8], record: &[u8], number: usize, value: usize) {
 
 #[test]
 fn marked_rows() {
-    let table: [(&[u8], &[u8], &[usize]); 14] = [
+    let table: [(&[u8], &[u8], &[usize]); 18] = [
         (b"ab", b"abbaab", &[1, 3, 5]),
         (b"ba", b"abbaab", &[1, 3, 5]),
         (b"a", b"", &[]),
@@ -62,12 +59,30 @@ fn marked_rows() {
         (b"abcd", b"cba", &[]),
         (b"aab", b"aaabaa", &[2, 3, 4]),
         (b"aab", b"cccaab", &[4]),
+        // Letters that request C-16 adds.
+        (b"qa", b"aqa", &[1, 2]),
+        (b"aq", b"aqaraq", &[1, 2, 5]),
+        (b"ar", b"aqaraq", &[3, 4]),
+        (b"yz", b"zyxzzy", &[1, 5]),
     ];
     for (pattern, record, starts) in table {
         let _shown = shown_windows(pattern, record);
         for calls in BOTH {
             assert_starts(calls, pattern, record, starts);
         }
+    }
+}
+
+/// A pattern of all letters in a record of all letters twice: each window has every letter once.
+#[test]
+fn a_pattern_of_all_letters() {
+    let letters: Vec<u8> = (FIRST_LETTER..).take(LETTERS).collect();
+    let record = letters.repeat(2);
+    let pattern: Vec<u8> = letters.into_iter().rev().collect();
+    let starts: Vec<usize> = (1..=LETTERS + 1).collect();
+    for calls in BOTH {
+        assert_starts(calls, &pattern, &record, &starts);
+        assert_starts(calls, &pattern, &record[..LETTERS - 1], &[]);
     }
 }
 

@@ -3,7 +3,7 @@
 //! record again and again would learn where its windows are, and a call would seem faster than it is. Each pattern is cut out of the middle
 //! of that record, so that it has one window there at least.
 use checks::calls::{Answer, Calls};
-use checks::generator::Generator;
+use checks::generator::random;
 use checks::library::Library;
 use checks::measure::{best, repeated, Timed, Turn};
 use checks::peers::{count_windows_sliding, list_windows_collected, list_windows_in_two_passes};
@@ -75,7 +75,7 @@ impl Kind {
 
     /// The longest record.
     fn record(self) -> Vec<u8> {
-        Generator::new(self.k as u64).uniform(LONGEST_RECORD, self.k)
+        random(LONGEST_RECORD, self.k)
     }
 
     /// The pattern, cut out of the record's middle.

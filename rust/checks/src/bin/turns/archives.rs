@@ -140,8 +140,13 @@ fn count_by(function: CountFunction, word: &[u8]) -> Counted {
     unsafe { function(word.as_ptr(), word.len()) }
 }
 
-/// The tracker's calls.
+/// Whether the bytes are letters, and the tracker's calls.
 impl Archive {
+    /// Whether the archive reads the word. One from before request C-16 has fewer letters, and refuses a word with others by number 2.
+    pub fn reads(&self, word: &[u8]) -> bool {
+        count_by(self.luff_count_full, word).refusal != 2
+    }
+
     pub fn add(&self, tracker: &mut Fields, letter: u8) -> Outcome {
         let (length, bytes) = (&mut tracker.length, &mut tracker.bytes);
         // SAFETY: the fields are three places of one struct.
