@@ -116,11 +116,11 @@ module _ (w : List ℕ) (t : T (ofLetters w)) (l : length w ≤ longest) where
   module _ (x : Pair) (r : T (inRange (length w) x)) where
     -- a candidate is open on it, and no other pair
     candidate-open : isCandidate w x ≡ true → entry x ≡ 0
-    candidate-open c = tried-kept (length w) (lowestPeriods w) x 0 (leb-true (getD (lowestPeriods w) (x .head) 0) (x .period) (sym (candidate-entry w x l r) ∙ c))
+    candidate-open c = tried-kept (length w) (lowestPeriods w) x 0 r (leb-true (getD (lowestPeriods w) (x .head) 0) (x .period) (sym (candidate-entry w x l r) ∙ c))
 
     other-passed : isCandidate w x ≡ false → entry x ≡ 1
     other-passed c =
-        below-passed (length w) (lowestPeriods w) x 0 (is-true (inRange (length w) x) r)
+        below-passed (length w) (lowestPeriods w) x 0 r
         (leb-false (getD (lowestPeriods w) (x .head) 0) (x .period) (sym (candidate-entry w x l r) ∙ c))
 
     open-candidate : eqb (entry x) 0 ≡ isCandidate w x

@@ -1,19 +1,21 @@
 -- Laws of pairs passed over: which entries are kept, and what is left open on a board of zeros.
 use mathlib.Core.Path.{_≡_, ap, _∙_}
-use mathlib.Core.Bool.{true, false, and-false}
+use mathlib.Core.Bool.{false}
 use mathlib.Core.List.{List}
 use Prim.Native.Nat.{ℕ, zero, suc, _+_, _-_, _≤_, _<_}
 use native.Mathlib.Omega.{arith}
 use lib.ListN.{length, getD}
+use lib.Dec.{T}
 use borrow.Author.Tests.{lt-ltb, le-ltb}
 use Rattle.abelian.specs.Words.{longest}
 use Rattle.abelian.specs.Periods.{Pair, inRange, pairs}
 use Rattle.abelian.specs.EndedLengths.{boardOf}
 use Rattle.abelian.specs.Trackers.{boardSize, entries}
+use Rattle.abelian.proofs.Tests.{is-true}
 use Rattle.board.specs.Ending.{entryInRow}
 use Rattle.board.proofs.Places.{entries-of, length-boardOf}
 use Rattle.board.proofs.EndedRows.{upTo, next-upTo}
-use Rattle.listers.specs.Passing.{entryPassed, rowPassed, allPassed}
+use Rattle.listers.specs.Passing.{passedBelow, entryPassed, rowPassed, allPassed}
 
 module _ (n : ℕ) (lowest : List ℕ) (x : Pair) (e : ℕ) where
   -- a pair that is not in range keeps its entry
@@ -21,15 +23,18 @@ module _ (n : ℕ) (lowest : List ℕ) (x : Pair) (e : ℕ) where
   unfolding entryPassed
   out-of-range-kept o = rw o
 
-  -- one whose period is not below the lowest keeps it too
-  pub tried-kept : getD lowest (x .head) 0 ≤ x .period → entryPassed n lowest x e ≡ e
+  -- the entry of one in range goes by the lowest period for its head
+  pub in-range-passed : T (inRange n x) → entryPassed n lowest x e ≡ passedBelow (x .period) (getD lowest (x .head) 0) e
   unfolding entryPassed
-  tried-kept l = rw (le-ltb (x .period) (getD lowest (x .head) 0) l, and-false)
+  in-range-passed r = rw (is-true (inRange n x) r)
 
-  -- any other is set to 1
-  pub below-passed : inRange n x ≡ true → x .period < getD lowest (x .head) 0 → entryPassed n lowest x e ≡ 1
-  unfolding entryPassed
-  below-passed r l = rw (r, lt-ltb (x .period) (getD lowest (x .head) 0) l)
+  -- it is kept where the pair's period is not below that
+  pub tried-kept : T (inRange n x) → getD lowest (x .head) 0 ≤ x .period → entryPassed n lowest x e ≡ e
+  tried-kept r l = rw (in-range-passed r, le-ltb (x .period) (getD lowest (x .head) 0) l)
+
+  -- and is 1 where it is
+  pub below-passed : T (inRange n x) → x .period < getD lowest (x .head) 0 → entryPassed n lowest x e ≡ 1
+  below-passed r l = rw (in-range-passed r, lt-ltb (x .period) (getD lowest (x .head) 0) l)
 
 -- one row more passed over
 pub next-passed : (n : ℕ) (lowest old board board′ : List ℕ) (p : ℕ) → length old ≡ boardSize → 1 ≤ p → board ≡ boardOf (upTo (entryPassed n lowest) (p - 1) old) → board′ ≡ rowPassed n lowest p board

@@ -1,6 +1,5 @@
 -- Pairs that the skipping lister passes over.
 use Prim.Native.Nat.{ℕ}
-use mathlib.Core.Bool.{_&&_}
 use mathlib.Core.List.{List}
 use lib.ListN.{length, getD}
 use lib.Dec.{ltb}
@@ -11,9 +10,13 @@ use Rattle.abelian.specs.Trackers.{entries}
 use Rattle.board.specs.Ending.{entryInRow}
 use Rattle.listers.specs.Lowest.{lowestPeriods}
 
+-- the entry of a pair in range of this period, whose head has this lowest one: 1 where the period is below it, and else as it was
+abbrev pub passedBelow : ℕ → ℕ → ℕ → ℕ
+passedBelow period lowest e = pick (ltb period lowest) 1 e
+
 -- the entry of a pair, after the pairs in range for n have been passed over whose period is below the lowest for their head: 1 for these
 unfoldable pub entryPassed : ℕ → List ℕ → Pair → ℕ → ℕ
-entryPassed n lowest x e = pick (inRange n x && ltb (x .period) (getD lowest (x .head) 0)) 1 e
+entryPassed n lowest x e = pick (inRange n x) (passedBelow (x .period) (getD lowest (x .head) 0) e) e
 
 -- a board after the row of the period p has been gone through in this way, and after all rows
 unfoldable pub rowPassed : ℕ → List ℕ → ℕ → List ℕ → List ℕ

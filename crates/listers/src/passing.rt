@@ -10,9 +10,16 @@ ghost use Prim.Native.Nat.{_≤_};
 ghost use lib.ListN.{length};
 ghost use Rattle.abelian.specs.Words.{longest};
 ghost use Rattle.abelian.specs.Trackers.{boardSize};
-ghost use Rattle.listers.specs.Passing.{rowPassed, allPassed};
+ghost use Rattle.listers.specs.Passing.{passedBelow, rowPassed, allPassed};
 
-// Passes over pairs of one period.
+// The entry of a pair in range: 1 where the period is below the lowest one for the head, and else as it was.
+fn entry_passed(period: u8, lowest: u8, entry: u8) -> u8
+    ensures { λ r. ⌜ r ≡ passedBelow period lowest entry ⌝ }
+{
+    if period < lowest { 1 } else { entry }
+}
+
+// Passes over pairs of one period. Every entry of the row is stored, so that the loop becomes vector instructions.
 fn pass_row(n: usize, period: Period, lowest: &[u8; ROWS], board: &mut [u8; BOARD])
     requires { ⌜ n ≤ longest ⌝ }
     requires { ⌜ length (now board) ≡ boardSize ⌝ }
@@ -24,10 +31,8 @@ fn pass_row(n: usize, period: Period, lowest: &[u8; ROWS], board: &mut [u8; BOAR
     let heads = row_heads(n, period);
     let mut h = 0;
     while h < heads {
-        if p < lowest[h] {
-            let at = start + h;
-            board[at] = 1;
-        }
+        let at = start + h;
+        board[at] = entry_passed(p, lowest[h], board[at]);
         h += 1;
     }
 }

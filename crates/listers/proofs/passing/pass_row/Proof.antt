@@ -1,25 +1,23 @@
 -- `listers::passing::pass_row` meets its contract. The invariant of its loop: the row has been gone through up to the head h. The measure is what is
 -- left of the row. Assumes nothing.
 use mathlib.Core.Path.{_≡_, sym, ap, ap₂, _∙_}
-use mathlib.Core.Logic.{⊎-elim}
 use mathlib.Core.List.{List}
 use Prim.Native.Nat.{ℕ, _+_, _-_, _≤_, _<_}
 use native.Mathlib.Numerals.{add-one}
 use native.Mathlib.Omega.{arith}
-use lib.ListN.{length, set}
+use lib.ListN.{length, getD, set}
 use lib.Dec.{T}
 use Rattle.abelian.specs.Words.{longest}
 use Rattle.abelian.specs.Periods.{pair, inRange}
 use Rattle.abelian.specs.Periods
 use Rattle.abelian.specs.EndedLengths.{boardOf}
 use Rattle.abelian.specs.Trackers.{boardSize}
-use Rattle.abelian.proofs.Tests.{is-true}
 use Rattle.abelian.proofs.Pairs.{InRange, range-in}
 use Rattle.board.specs.Places.{placeOf, rowStart, entryAt}
 use Rattle.board.proofs.Rows.{row-end}
-use Rattle.board.proofs.EndedRows.{below, none-below, next-below, kept-below, all-below}
-use Rattle.listers.specs.Passing.{entryPassed, rowPassed}
-use Rattle.listers.proofs.Passed.{out-of-range-kept, tried-kept, below-passed}
+use Rattle.board.proofs.EndedRows.{below, none-below, entry-untouched, next-below, all-below}
+use Rattle.listers.specs.Passing.{passedBelow, entryPassed, rowPassed}
+use Rattle.listers.proofs.Passed.{out-of-range-kept, in-range-passed}
 use borrow.Author.Needs.{needs}
 use Rattle.listers.proofs.passing.pass_row.Statement.{statement}
 use Rattle.listers.proofs.passing.pass_row.Tie as tie
@@ -81,17 +79,41 @@ module _ (c : tie.After-row-heads Inv-loop μ-loop) where
 loop-holds : tie.Need-loop-holds Inv-loop μ-loop
 loop-holds c = (omega arith, none-below (entryPassed (n c) (lowest c)) (p c) (board c) (long c))
 
-element-copy-out-if1 : tie.Need-element-copy-out-if1 Inv-loop μ-loop
-unfolding longest
-element-copy-out-if1 c = omega (arith, in-row (c .before .before) (c .before .loop .h) (omega (arith, has (c .before .before), c .loop-test .taken)) .fits, start (c .before .before) .pre .0)
+-- the pair of the head h, which is in range, and its place
+module _ (c : tie.In-loop Inv-loop μ-loop) where
+  abbrev r : tie.After-row-heads Inv-loop μ-loop
+  r = c .before .before
+
+  abbrev h : ℕ
+  h = c .before .loop .h
+
+  range : InRange (n r) (pair h (p r))
+  range = in-row r h (omega (arith, has r, c .loop-test .taken))
+
+  inside : InRange longest (pair h (p r))
+  inside = record { positive = range .positive; below = range .below; fits = omega (arith, range .fits, start r .pre .0) }
+
+  at-place : r .before .row-start .result + h < boardSize
+  at-place = omega (arith, on-board r, begins r, has r, c .loop-test .taken)
 
 add-at : tie.Need-add-at Inv-loop μ-loop
 unfolding boardSize
-add-at c = let r = c .before .before .before .before in omega (arith, on-board r, begins r, has r, c .before .before .loop-test .taken)
+add-at c = omega (arith, at-place c)
+
+element-copy-out-entry-passed : tie.Need-element-copy-out-entry-passed Inv-loop μ-loop
+unfolding longest
+element-copy-out-entry-passed c = omega (arith, inside c .fits)
+
+element-copy-out-entry-passed-2 : tie.Need-element-copy-out-entry-passed-2 Inv-loop μ-loop
+unfolding boardSize
+element-copy-out-entry-passed-2 c = omega (arith, at-place (c .before))
+
+entry-passed-requires : tie.Need-entry-passed-requires Inv-loop μ-loop
+entry-passed-requires c κs = search needs
 
 element-write-board : tie.Need-element-write-board Inv-loop μ-loop
 unfolding boardSize
-element-write-board c = let r = c .before .before .before .before in omega (arith, on-board r, begins r, has r, c .before .before .loop-test .taken)
+element-write-board c = omega (arith, at-place (c .before .before .before))
 
 add-h : tie.Need-add-h Inv-loop μ-loop
 add-h c = search needs
@@ -101,23 +123,19 @@ loop-less c = search needs
 
 loop-again : tie.Need-loop-again Inv-loop μ-loop
 loop-again c =
-    let i = c .before .before in
-    let r = i .before .before in
-    let h = i .before .loop .h in
-    let x = pair h (p r) in
-    let b = i .before .loop .board in
-    let range : InRange (n r) x = in-row r h (omega (arith, has r, i .loop-test .taken)) in
-    let inside : T (inRange longest x) = range-in longest x (record { positive = range .positive; below = range .below; fits = omega (arith, range .fits, start r .pre .0) }) in (
+    let i = c .before .before .before in
+    let f = entryPassed (n (r i)) (lowest (r i)) in
+    let x = pair (h i) (p (r i)) in
+    let t : T (inRange longest x) = range-in longest x (inside i) in
+    let new = passedBelow (p (r i)) (getD (lowest (r i)) (h i) 0) in (
       omega (arith, i .loop-test .taken),
       rw add-one
-          (⊎-elim
-          (λ w. w .1
-          ∙ ap₂ (λ l k. set l k 1) (i .before .loop .inv .1) (place-at r h)
-          ∙ ap (set (boardOf (below (entryPassed (n r) (lowest r)) (p r) h (board r))) (placeOf x))
-          (sym (below-passed (n r) (lowest r) x (entryAt (board r) x) (is-true (inRange (n r) x) (range-in (n r) x range)) (w .0 .taken)))
-          ∙ next-below (entryPassed (n r) (lowest r)) (p r) (board r) (long r) h inside)
-          (λ w. w .1 ∙ i .before .loop .inv .1 ∙ kept-below (entryPassed (n r) (lowest r)) (p r) (board r) (long r) h inside (tried-kept (n r) (lowest r) x (entryAt (board r) x) (w .0 .left)))
-          (c .if1 .came)),
+          (ap (set (i .before .loop .board) _) (c .entry-passed .ensures)
+          ∙ ap₂ (λ l k. set l k (new (getD l k 0))) (i .before .loop .inv .1) (place-at (r i) (h i))
+          ∙ ap (set (boardOf (below f (p (r i)) (h i) (board (r i)))) (placeOf x))
+          (ap new (entry-untouched f (p (r i)) (board (r i)) (long (r i)) (h i) t)
+          ∙ sym (in-range-passed (n (r i)) (lowest (r i)) x (entryAt (board (r i)) x) (range-in (n (r i)) x (range i))))
+          ∙ next-below f (p (r i)) (board (r i)) (long (r i)) (h i) t),
     )
 
 returns : tie.Need-returns Inv-loop μ-loop
@@ -138,8 +156,10 @@ pass-row-spec =
     row-start-requires
     row-heads-requires
     loop-holds
-    element-copy-out-if1
     add-at
+    element-copy-out-entry-passed
+    element-copy-out-entry-passed-2
+    entry-passed-requires
     element-write-board
     add-h
     loop-less
