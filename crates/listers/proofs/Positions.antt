@@ -22,7 +22,7 @@ use Rattle.abelian.proofs.Counts.{count-take-more, count-le-length}
 use Rattle.words.proofs.Vectors.{map-upFrom-at}
 use Rattle.words.specs.Prefixes.{Counted}
 use Rattle.words.proofs.Prefixes.{entry-count}
-use Rattle.listers.specs.Lowest.{positions}
+use Rattle.listers.specs.Lowest.{positions, noPositions}
 use Rattle.listers.proofs.Select.{occurrence-is, occurrence-none, occurrence-length}
 
 module _ (w : List ℕ) where
@@ -92,7 +92,7 @@ emptyRow-at k = go (decLt k (suc longest))
     go (no l) = List·getD-eq-default emptyRow 0 {n = k} (omega (arith, length-replicate {A = ℕ} (suc longest) 0))
 
 -- before the first letter nothing is found
-pub nothing-found : (w : List ℕ) → Found w (replicate alphabetSize emptyRow) 0
+pub nothing-found : (w : List ℕ) → Found w noPositions 0
 unfolding count
 nothing-found w =
     record {

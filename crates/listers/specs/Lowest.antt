@@ -3,15 +3,19 @@
 use Prim.Native.Nat.{ℕ, suc, _*_}
 use mathlib.Core.Bool.{not, _&&_}
 use mathlib.Core.List.{List, map}
-use lib.ListN.{length, drop}
+use lib.ListN.{length, drop, replicate}
 use lib.Dec.{ltb}
 use Rattle.abelian.specs.Lists.{pick, upFrom}
-use Rattle.abelian.specs.Words.{longest, letters}
+use Rattle.abelian.specs.Words.{alphabetSize, longest, letters}
 use Rattle.abelian.specs.Trials.{ruledOut, occurrence, greatestGap, lowestTried}
 
 -- row j, entry k: the position of occurrence number k + 1 of the letter of place j, or 0 where the letter has no more than k
 unfoldable pub positions : List ℕ → List (List ℕ)
 positions w = map (λ (c : ℕ). map (λ (k : ℕ). occurrence c k w) (upFrom 1 (suc longest))) letters
+
+-- a table of that size in which no position has been entered
+abbrev pub noPositions : List (List ℕ)
+noPositions = replicate alphabetSize (replicate (suc longest) 0)
 
 -- entry h, from 0 to 240: G of the letters after position h
 unfoldable pub greatestGaps : List ℕ → List ℕ

@@ -9,18 +9,19 @@ ghost use lib.ListN.{drop};
 ghost use Rattle.abelian.specs.Words.{longest};
 ghost use Rattle.abelian.specs.Trials.{greatestGap};
 ghost use Rattle.words.specs.Prefixes.{Counted};
-ghost use Rattle.listers.specs.Lowest.{positions, greatestGaps, lowestPeriod, lowestPeriods};
+ghost use Rattle.listers.specs.Lowest.{positions, noPositions, greatestGaps, lowestPeriod, lowestPeriods};
 
 // The entry of a head with which no pair is tried: it is above every period.
 const UNTRIED: u8 = 255;
 
-// The positions of each letter's occurrences: entry k of a letter's row is the position of its occurrence number k + 1, or 0 where the
-// letter has no more than k. Each letter of the word is read once, since the row of the letters before it says which occurrence it is.
-fn find_positions(word: &[u8], counts: &[[u8; LETTERS]; ROWS]) -> [[u8; ROWS]; LETTERS]
+// The positions of each letter's occurrences, in a table of zeros that the caller lends: entry k of a letter's row is the position of its
+// occurrence number k + 1, or 0 where the letter has no more than k. Each letter of the word is read once, since the row of the letters
+// before it says which occurrence it is.
+fn find_positions(word: &[u8], counts: &[[u8; LETTERS]; ROWS], found: &mut [[u8; ROWS]; LETTERS])
     requires { ⌜ Counted (now word) (now counts) ⌝ }
-    ensures { λ r. ⌜ r ≡ positions (now (word .entry)) ⌝ }
+    requires { ⌜ now found ≡ noPositions ⌝ }
+    ensures { λ _. ⌜ now (found .exit) ≡ positions (now (word .entry)) ⌝ }
 {
-    let mut found = [[0u8; ROWS]; LETTERS];
     let mut i = 0;
     while i < word.len() {
         let place = (word[i] - FIRST_LETTER) as usize;
@@ -28,7 +29,6 @@ fn find_positions(word: &[u8], counts: &[[u8; LETTERS]; ROWS]) -> [[u8; ROWS]; L
         found[place][k] = (i + 1) as u8;
         i += 1;
     }
-    found
 }
 
 // The greatest gap G behind each head: entry h is that of the letters after position h. It is found from the right, since one letter more
@@ -105,7 +105,8 @@ pub(crate) fn lowest_periods(word: &[u8], counts: &[[u8; LETTERS]; ROWS]) -> [u8
     requires { ⌜ Counted (now word) (now counts) ⌝ }
     ensures { λ r. ⌜ r ≡ lowestPeriods (now (word .entry)) ⌝ }
 {
-    let select = find_positions(word, counts);
+    let mut select = [[0u8; ROWS]; LETTERS];
+    find_positions(word, counts, &mut select);
     let gaps = greatest_gaps(word, counts, &select);
     let mut lowest = [UNTRIED; ROWS];
     let mut h = 0;

@@ -1,6 +1,6 @@
 -- `listers::lowest::find_positions` meets its contract. The invariant of its loop: the table has the positions of the occurrences among the letters read, and 0 elsewhere.
 -- The measure is what is left of the word. Assumes nothing.
-use mathlib.Core.Path.{_≡_}
+use mathlib.Core.Path.{_≡_, sym, subst}
 use mathlib.Core.List.{List, []}
 use Prim.Native.Nat.{ℕ, _+_, _-_, _≤_, _<_}
 use native.Mathlib.Omega.{arith}
@@ -19,8 +19,7 @@ abbrev μ-loop : tie.MeasureT-loop
 μ-loop word counts found₀ i₀ found i = length word - i
 
 loop-holds : tie.Need-loop-holds Inv-loop μ-loop
-unfolding alphabetSize longest
-loop-holds c = nothing-found (c .args .word .now)
+loop-holds c = subst (λ (table : List (List ℕ)). Found (c .args .word .now) table 0) (sym (c .pre .1)) (nothing-found (c .args .word .now))
 
 shared-slice-read-place : tie.Need-shared-slice-read-place Inv-loop μ-loop
 shared-slice-read-place c = search needs
@@ -29,7 +28,7 @@ shared-slice-read-place c = search needs
 letter : (c : tie.After-shared-slice-known Inv-loop μ-loop)
     → (firstLetter ≤ getD (c .before .before .before .args .word .now) (c .before .before .loop .i) 0)
     × (getD (c .before .before .before .args .word .now) (c .before .before .loop .i) 0 < firstLetter + alphabetSize)
-letter c = letter-at (c .before .before .before .args .word .now) (c .before .before .loop .i) (c .before .before .before .pre .all) (omega arith)
+letter c = letter-at (c .before .before .before .args .word .now) (c .before .before .loop .i) (c .before .before .before .pre .0 .all) (omega arith)
 
 sub-place : tie.Need-sub-place Inv-loop μ-loop
 unfolding firstLetter
@@ -69,10 +68,10 @@ module _ (c : tie.After-k Inv-loop μ-loop) where
   same = omega (arith, letter (c .before))
 
   read : getD (getD table i []) (getD w i 0 - firstLetter) 0 ≡ count (firstLetter + (getD w i 0 - firstLetter)) (take i w)
-  read = counted-entry w table (c .before .before .before .before .pre) i (omega arith) (getD w i 0 - firstLetter) place
+  read = counted-entry w table (c .before .before .before .before .pre .0) i (omega arith) (getD w i 0 - firstLetter) place
 
   small : getD (getD table i []) (getD w i 0 - firstLetter) 0 ≤ i
-  small = counted-small w table (c .before .before .before .before .pre) i (omega arith) (getD w i 0 - firstLetter) place
+  small = counted-small w table (c .before .before .before .before .pre .0) i (omega arith) (getD w i 0 - firstLetter) place
 
 cast-k : tie.Need-cast-k Inv-loop μ-loop
 unfolding firstLetter longest
@@ -108,7 +107,7 @@ loop-again : tie.Need-loop-again Inv-loop μ-loop
 unfolding firstLetter
 loop-again c =
     let at-loop = c .before .before .before in
-    rw (read c) (next-found (w c) (at-loop .before .pre .short) (at-loop .loop .found) (i c) (getD (w c) (i c) 0 - firstLetter) (omega arith) (place c) (same c) (at-loop .loop .inv))
+    rw (read c) (next-found (w c) (at-loop .before .pre .0 .short) (at-loop .loop .found) (i c) (getD (w c) (i c) 0 - firstLetter) (omega arith) (place c) (same c) (at-loop .loop .inv))
 
 returns : tie.Need-returns Inv-loop μ-loop
 returns c = all-found (c .before .before .args .word .now) (c .before .loop .found) (c .before .loop .i) (omega arith) (c .before .loop .inv)

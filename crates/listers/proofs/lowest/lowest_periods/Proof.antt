@@ -6,7 +6,7 @@ use Prim.Native.Nat.{ℕ, suc, _-_}
 use native.Mathlib.Omega.{arith}
 use lib.ListN.{getD}
 use borrow.Author.Needs.{needs}
-use Rattle.abelian.specs.Words.{longest}
+use Rattle.abelian.specs.Words.{alphabetSize, longest}
 use Rattle.listers.proofs.Gaps.{gaps-at}
 use Rattle.listers.proofs.LowestPeriods.{Entries, next-entry, all-entries}
 use Rattle.listers.proofs.lowest.lowest_periods.Statement.{statement}
@@ -19,6 +19,7 @@ abbrev μ-loop : tie.MeasureT-loop
 μ-loop word counts select gaps lowest₀ h₀ lowest h = suc longest - h
 
 find-positions-requires : tie.Need-find-positions-requires Inv-loop μ-loop
+unfolding alphabetSize longest
 find-positions-requires c κs = search needs
 
 greatest-gaps-requires : tie.Need-greatest-gaps-requires Inv-loop μ-loop
@@ -36,7 +37,7 @@ lowest-period-requires : tie.Need-lowest-period-requires Inv-loop μ-loop
 unfolding longest
 lowest-period-requires c κs =
     let a = c .before .before in
-    let s = a .before .before .before .before .before in (
+    let s = a .before .before .before .before .before .before in (
       s .pre,
       (
         a .before .before .before .find-positions .ensures,
@@ -60,11 +61,11 @@ loop-again : tie.Need-loop-again Inv-loop μ-loop
 unfolding longest
 loop-again c =
     let a = c .before .before .before in
-    next-entry (a .before .before .before .before .before .args .word .now) (a .loop .lowest) (a .loop .h) (c .lowest-period .result) (omega arith) (c .lowest-period .ensures) (a .loop .inv)
+    next-entry (a .before .before .before .before .before .before .args .word .now) (a .loop .lowest) (a .loop .h) (c .lowest-period .result) (omega arith) (c .lowest-period .ensures) (a .loop .inv)
 
 returns : tie.Need-returns Inv-loop μ-loop
 unfolding longest
-returns c = let a = c .before in all-entries (a .before .before .before .before .before .args .word .now) (a .loop .lowest) (a .loop .h) (omega arith) (a .loop .inv)
+returns c = let a = c .before in all-entries (a .before .before .before .before .before .before .args .word .now) (a .loop .lowest) (a .loop .h) (omega arith) (a .loop .inv)
 
 pub lowest-periods-spec : {M : Type 1} → statement M
 lowest-periods-spec =
