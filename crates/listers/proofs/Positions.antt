@@ -4,7 +4,6 @@ use mathlib.Core.Bool.{true, false}
 use mathlib.Core.Logic.{_⊎_, inl, inr, _≢_}
 use mathlib.Core.List.{List, [], map}
 use Prim.Native.Nat.{ℕ, suc, _+_, _-_, _≤_, _<_}
-use native.Mathlib.Numerals.{add-one}
 use native.Mathlib.Decide.{decLt}
 use native.Mathlib.Omega.{arith}
 use lib.ListN.{length, take, getD, set, length-map, length-set, getD-replicate, length-replicate, replicate, length-take, List·getD-eq-default}
@@ -12,18 +11,18 @@ use lib.Seq.{ext-getD, getD-set-same, getD-set-other, take-all}
 use lib.Dec.{eqb}
 use mir.Val.{Fits}
 use mir.Syntax.{w64}
-use borrow.Author.Tests.{eqb-true, eqb-false, eq-eqb, ne-eqb}
+use borrow.Author.Tests.{eqb-true, eqb-false}
 use Rattle.abelian.specs.Lists.{upFrom}
 use Rattle.abelian.specs.Words.{alphabetSize, firstLetter, longest, letters, count}
 use Rattle.abelian.specs.Trials.{occurrence}
 use Rattle.abelian.proofs.Tests.{decided}
 use Rattle.abelian.proofs.Lists.{length-upFrom}
-use Rattle.abelian.proofs.Counts.{count-take-more, count-le-length}
-use Rattle.words.proofs.Vectors.{map-upFrom-at}
+use Rattle.abelian.proofs.Counts.{count-le-length}
+use Rattle.words.proofs.Vectors.{letter-at, map-upFrom-at}
 use Rattle.words.specs.Prefixes.{Counted}
 use Rattle.words.proofs.Prefixes.{entry-count}
 use Rattle.listers.specs.Lowest.{positions, noPositions}
-use Rattle.listers.proofs.Select.{occurrence-is, occurrence-none, occurrence-length}
+use Rattle.listers.proofs.Select.{count-here, count-elsewhere, occurrence-is, occurrence-none, occurrence-length}
 
 module _ (w : List ℕ) where
   -- a row has one entry for each number of occurrences, from none before it to the longest word's length
@@ -43,7 +42,7 @@ module _ (w : List ℕ) where
   positions-row j l = map-upFrom-at row firstLetter alphabetSize j [] l
 
   -- entry k of row j is the position of occurrence number k + 1
-  pub position-at : (j k : ℕ) → j < alphabetSize → k ≤ longest → getD (getD (positions w) j []) k 0 ≡ occurrence (firstLetter + j) (suc k) w
+  position-at : (j k : ℕ) → j < alphabetSize → k ≤ longest → getD (getD (positions w) j []) k 0 ≡ occurrence (firstLetter + j) (suc k) w
   position-at j k l m =
       let e : 1 + k ≡ suc k = omega arith in
       ap (λ (r : List ℕ). getD r k 0) (positions-row j l) ∙ map-upFrom-at (λ (n : ℕ). occurrence (firstLetter + j) n w) 1 (suc longest) k 0 (omega arith)
@@ -51,24 +50,37 @@ module _ (w : List ℕ) where
 
 -- ---- the entries that are read
 
-module _ (w : List ℕ) (table : List (List ℕ)) (t : Counted w table) (i : ℕ) (l : i ≤ length w) (j : ℕ) (place : j < alphabetSize) where
-  -- an entry of the table of prefix counts: how often the letter of the place stands in the prefix
-  pub counted-entry : getD (getD table i []) j 0 ≡ count (firstLetter + j) (take i w)
-  counted-entry = ap (λ (a : List (List ℕ)). getD (getD a i []) j 0) (t .rows) ∙ entry-count w j place i (omega (arith, t .short))
+-- an entry of the table of prefix counts: how often the letter of the place stands in the prefix
+pub counted-entry : (w : List ℕ) (table : List (List ℕ)) → Counted w table → (i : ℕ) → i ≤ length w → (j : ℕ) → j < alphabetSize → getD (getD table i []) j 0 ≡ count (firstLetter + j) (take i w)
+counted-entry w table t i l j place = ap (λ (a : List (List ℕ)). getD (getD a i []) j 0) (t .rows) ∙ entry-count w j place i (omega (arith, t .short))
 
-  pub counted-small : getD (getD table i []) j 0 ≤ i
-  counted-small = rw counted-entry (omega (arith, count-le-length (firstLetter + j) (take i w), length-take i w))
+-- the letter at a position
+module _ (w : List ℕ) (table : List (List ℕ)) (t : Counted w table) (i : ℕ) (l : i < length w) where
+  abbrev letter : ℕ
+  letter = getD w i 0
 
--- an entry of the table of positions is one of the word
-module _ (w : List ℕ) (select : List (List ℕ)) (short : length w ≤ longest) (e : select ≡ positions w) (j k : ℕ) (place : j < alphabetSize) (l : k ≤ longest) where
-  pub position-small : getD (getD select j []) k 0 ≤ length w
-  position-small =
-      let o : getD (getD select j []) k 0 ≡ occurrence (firstLetter + j) (suc k) w = ap (λ (a : List (List ℕ)). getD (getD a j []) k 0) e ∙ position-at w j k place l in
-      omega (arith, occurrence-length (firstLetter + j) (suc k) w (omega arith))
+  letter-place : (letter - firstLetter < alphabetSize) × (firstLetter + (letter - firstLetter) ≡ letter)
+  letter-place = let b = letter-at w i (t .all) l in (omega arith, omega arith)
 
-  pub position-fits : Fits w64 (getD (getD select j []) k 0)
-  unfolding longest
-  position-fits = omega (arith, position-small)
+  -- its entry in a row of the table of prefix counts
+  module _ (k : ℕ) (b : k ≤ length w) where
+    pub letter-counted : getD (getD table k []) (letter - firstLetter) 0 ≡ count letter (take k w)
+    letter-counted = counted-entry w table t k b (letter - firstLetter) (letter-place .0) ∙ ap (λ (c : ℕ). count c (take k w)) (letter-place .1)
+
+    pub letter-small : getD (getD table k []) (letter - firstLetter) 0 ≤ k
+    letter-small = omega (arith, letter-counted, count-le-length letter (take k w), length-take k w)
+
+  -- and an entry of its row in the table of positions
+  module _ (select : List (List ℕ)) (e : select ≡ positions w) (k : ℕ) (b : k ≤ longest) where
+    pub letter-position : getD (getD select (letter - firstLetter) []) k 0 ≡ occurrence letter (suc k) w
+    letter-position =
+        ap (λ (a : List (List ℕ)). getD (getD a (letter - firstLetter) []) k 0) e
+        ∙ position-at w (letter - firstLetter) k (letter-place .0) b
+        ∙ ap (λ (c : ℕ). occurrence c (suc k) w) (letter-place .1)
+
+    pub position-fits : Fits w64 (getD (getD select (letter - firstLetter) []) k 0)
+    unfolding longest
+    position-fits = omega (arith, letter-position, occurrence-length letter (suc k) w (omega arith), t .short)
 
 -- ---- the loop that fills the table
 
@@ -118,11 +130,10 @@ module _ (w : List ℕ) (short : length w ≤ longest) (table : List (List ℕ))
   elsewhere j n = getD-set-other table j₀ j (set (getD table j₀ []) k₀ (i + 1)) [] n
 
   counted-here : count (firstLetter + j₀) (take (i + 1) w) ≡ k₀ + 1
-  counted-here = rw (add-one i, count-take-more (firstLetter + j₀) i w l, eq-eqb (getD w i 0) (firstLetter + j₀) e)
+  counted-here = count-here w i l (firstLetter + j₀) e
 
   counted-elsewhere : (j : ℕ) → j ≢ j₀ → count (firstLetter + j) (take (i + 1) w) ≡ count (firstLetter + j) (take i w)
-  counted-elsewhere j n =
-      rw (add-one i, count-take-more (firstLetter + j) i w l, ne-eqb (getD w i 0) (firstLetter + j) (omega arith)) (omega arith)
+  counted-elsewhere j n = count-elsewhere w i l (firstLetter + j) (omega arith)
 
   k₀-small : k₀ < suc longest
   k₀-small = omega (arith, count-le-length (firstLetter + j₀) (take i w), length-take i w)

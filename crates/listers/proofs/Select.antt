@@ -5,6 +5,7 @@ use mathlib.Core.Bool.{Bool, true, false}
 use mathlib.Core.Logic.{⊎-elim, _≢_}
 use mathlib.Core.List.{List}
 use Prim.Native.Nat.{ℕ, zero, suc, _+_, _-_, _≤_, _<_}
+use native.Mathlib.Numerals.{add-one}
 use native.Mathlib.Decide.{decLe}
 use native.Mathlib.Omega.{arith}
 use lib.ListN.{length, take, drop, getD, length-drop}
@@ -22,6 +23,14 @@ use Rattle.periods.proofs.OnceEnded.{count-take-le}
 one-le : (b : Bool) → one b ≤ 1
 one-le true = omega arith
 one-le false = omega arith
+
+-- one letter more is one more of that letter, and none more of any other
+module _ (w : List ℕ) (i : ℕ) (l : i < length w) where
+  pub count-here : (c : ℕ) → getD w i 0 ≡ c → count c (take (i + 1) w) ≡ count c (take i w) + 1
+  count-here c e = rw (add-one i, count-take-more c i w l, eq-eqb (getD w i 0) c e)
+
+  pub count-elsewhere : (c : ℕ) → getD w i 0 ≢ c → count c (take (i + 1) w) ≡ count c (take i w)
+  count-elsewhere c n = rw (add-one i, count-take-more c i w l, ne-eqb (getD w i 0) c n) (omega arith)
 
 -- the first number from a on that passes is o
 firstOf-is : (f : ℕ → Bool) (a n o : ℕ) → a ≤ o → o < a + n → f o ≡ true → ((m : ℕ) → m < o → f m ≡ false) → firstOf f (upFrom a n) ≡ o
@@ -108,6 +117,10 @@ module _ (c k : ℕ) (w : List ℕ) where
       go : Dec (k ≤ count c w) → occurrence c k w ≤ length w
       go (yes l) = occurrence-found p l .within
       go (no l) = rw (occurrence-none (omega arith)) (omega arith)
+
+-- a later occurrence has the greater position
+pub occurrence-rises : (c k m : ℕ) (w : List ℕ) → 1 ≤ k → k ≤ m → m ≤ count c w → occurrence c k w ≤ occurrence c m w
+occurrence-rises c k m w p l r = let o = occurrence-found c m w (omega arith) r in occurrence-le c k w (occurrence c m w) p (o .within) (omega (arith, o .reached))
 
 -- the first occurrence behind the first a letters is the one that follows those in them
 pub occurrence-drop : (c a : ℕ) (w : List ℕ) → occurrence c 1 (drop a w) ≡ occurrence c (count c (take a w) + 1) w - a

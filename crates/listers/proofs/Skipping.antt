@@ -3,9 +3,9 @@
 use mathlib.Core.Path.{_≡_, refl, sym, ap, _∙_}
 use mathlib.Core.Bool.{Bool, true, false, not}
 use mathlib.Core.Logic.{⊎-elim}
-use mathlib.Core.List.{List, List·Memᴰ}
+use mathlib.Core.List.{List, map, List·Memᴰ, Memᴰ·of-map}
 use Prim.Native.Nat.{ℕ, suc, _+_, _-_, _*_, _/_, _≤_, _<_}
-use native.Mathlib.Nat.{suc-mul, div-mul-le-self, lt-div-mul-add, le-div-iff-mul-le}
+use native.Mathlib.Nat.{max-le, suc-mul, div-mul-le-self, lt-div-mul-add, le-div-iff-mul-le}
 use native.Mathlib.Decide.{decLe}
 use native.Mathlib.Omega.{arith}
 use lib.ListN.{length, take, drop, getD, length-drop}
@@ -13,25 +13,29 @@ use lib.Seq.{drop-drop, getD-drop}
 use lib.Dec.{T, leb, ltb}
 use borrow.Author.Tests.{eq-eqb, le-leb, leb-true, ltb-true}
 use Rattle.abelian.specs.Lists.{all}
-use Rattle.abelian.specs.Words.{alphabetSize, ofLetters, letters, count, vector, part}
+use Rattle.abelian.specs.Words.{ofLetters, letters, count, vector, part}
 use Rattle.abelian.specs.Periods.{Pair, headOf, block, wholeBlocks, isPeriod}
 use Rattle.abelian.specs.Trials.{ruledOut, occurrence, distance, greatestGap, occurrenceBound, lowestTried, isCandidate}
 use Rattle.abelian.proofs.Tests.{is-true, is-false, passes, fails, decided, both}
-use Rattle.abelian.proofs.Lists.{mem-all, all-mem}
-use Rattle.abelian.proofs.Counts.{isLetter-mem, bounds-letter, count-part, count-take-rises, count-take-more, vector-counts, noneAbove-counts, contained-noneAbove}
+use Rattle.abelian.proofs.Lists.{mem-all, all-mem, largest-le}
+use Rattle.abelian.proofs.Counts.{count-part, count-take-rises, count-take-more, vector-counts, noneAbove-counts, contained-noneAbove}
 use Rattle.abelian.proofs.Definition1.{Conditions, period-conditions}
-use Rattle.words.proofs.Vectors.{letter-at}
 use Rattle.periods.proofs.OnceEnded.{count-take-le}
 use Rattle.periods.proofs.Kernel.{first-block}
 use Rattle.listers.proofs.Select.{occurrence-le, occurrence-length}
 use Rattle.listers.proofs.Gaps.{gap-le}
-use Rattle.listers.proofs.LowestPeriods.{lowest-least}
+use Rattle.listers.proofs.LowestPeriods.{letter-mem, allowed-head}
 
 -- ---- an Abelian period
 
--- what stands at a position of a word of letters is among the letters
-letter-mem : (w : List ℕ) (i : ℕ) → T (ofLetters w) → i < length w → List·Memᴰ (getD w i 0) letters
-letter-mem w i t l = let b = letter-at w i t l in isLetter-mem (getD w i 0) (bounds-letter alphabetSize (getD w i 0) (b .0) (b .1))
+-- what is above h, above each letter's bound and above the gap's is at least L(h)
+lowest-least : (w : List ℕ) (h b : ℕ) → suc h ≤ b → ((d : ℕ) → List·Memᴰ d letters → occurrenceBound w h d ≤ b) → (greatestGap (drop h w) + 1) / 2 ≤ b → lowestTried w h ≤ b
+unfolding lowestTried
+lowest-least w h b l e g =
+    max-le l
+    (max-le
+    (largest-le (map (occurrenceBound w h) letters) b (λ a m. let found = Memᴰ·of-map (occurrenceBound w h) letters m in rw (← found .2) (e (found .0) (found .1))))
+    g)
 
 module _ (w : List ℕ) (x : Pair) (c : Conditions w x) where
   abbrev h : ℕ
@@ -49,11 +53,7 @@ module _ (w : List ℕ) (x : Pair) (c : Conditions w x) where
       omega (arith, count-part d h p w, rw (first-block w x) at b)
 
   not-ruled-out : ruledOut w h ≡ false
-  unfolding ruledOut
-  not-ruled-out =
-      ap not (is-true (all (λ (d : ℕ). leb (2 * count d (take h w)) (count d w)) letters)
-      (mem-all (λ (d : ℕ). leb (2 * count d (take h w)) (count d w)) letters
-      (λ d m. passes (leb (2 * count d (take h w)) (count d w)) (le-leb (2 * count d (take h w)) (count d w) (omega (arith, twice d m, count-take-le d (h + p) w))))))
+  not-ruled-out = allowed-head w h (λ d m. omega (arith, twice d m, count-take-le d (h + p) w))
 
   -- the position of a letter's occurrence number twice its count in the head is within head and block 1
   occurrence-bound : (d : ℕ) → List·Memᴰ d letters → occurrenceBound w h d ≤ p

@@ -1,6 +1,6 @@
 -- What the skipping lister looks up: for each letter and number the position of that occurrence, for each head the greatest gap behind it and the lowest period that is
 -- tried with it.
-use Prim.Native.Nat.{ℕ, suc, _*_}
+use Prim.Native.Nat.{ℕ, suc, _+_, _-_, _*_, _/_, max}
 use mathlib.Core.Bool.{not, _&&_}
 use mathlib.Core.List.{List, map}
 use lib.ListN.{length, drop, replicate}
@@ -20,6 +20,11 @@ noPositions = replicate alphabetSize (replicate (suc longest) 0)
 -- entry h, from 0 to 240: G of the letters after position h
 unfoldable pub greatestGaps : List ℕ → List ℕ
 greatestGaps w = map (λ (h : ℕ). greatestGap (drop h w)) (upFrom 0 (suc longest))
+
+-- L(h) by the head's reach, the greatest position of an occurrence number 2c of a letter that the head has c times, and by the greatest gap behind it: the largest of
+-- h + 1, the reach less h, and floor((gap + 1)/2)
+abbrev pub lowestAbove : ℕ → ℕ → ℕ → ℕ
+lowestAbove h reach gap = max (suc h) (max (reach - h) ((gap + 1) / 2))
 
 -- the entry of a head with which no pair is tried: it is above every period
 unfoldable pub untried : ℕ

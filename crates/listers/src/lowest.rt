@@ -5,11 +5,9 @@ use abelian::LETTERS;
 use words::ROWS;
 ghost use mathlib.Core.Path.{_≡_};
 ghost use Prim.Native.Nat.{_≤_};
-ghost use lib.ListN.{drop};
 ghost use Rattle.abelian.specs.Words.{longest};
-ghost use Rattle.abelian.specs.Trials.{greatestGap};
 ghost use Rattle.words.specs.Prefixes.{Counted};
-ghost use Rattle.listers.specs.Lowest.{positions, noPositions, greatestGaps, lowestPeriod, lowestPeriods};
+ghost use Rattle.listers.specs.Lowest.{positions, noPositions, greatestGaps, lowestAbove, lowestPeriods};
 
 // The entry of a head with which no pair is tried: it is above every period.
 const UNTRIED: u8 = 255;
@@ -58,49 +56,30 @@ fn greatest_gaps(
     gaps
 }
 
-// The lowest period to try with the head, of which the greatest gap behind it is given: L(h), or 255 where the head is too long for a pair
-// in range or is ruled out. It is ruled out where a letter that it has c times has no occurrence number 2c.
-fn lowest_period(
-    word: &[u8],
-    counts: &[[u8; LETTERS]; ROWS],
-    select: &[[u8; ROWS]; LETTERS],
-    head: Head,
-    gap: u8,
-) -> u8
-    requires { ⌜ Counted (now word) (now counts) ⌝ }
-    requires { ⌜ now select ≡ positions (now word) ⌝ }
+// The lowest period to try with a head that is not ruled out, L(h). Given are the head's reach, which is the greatest position of an
+// occurrence number 2c of a letter that the head has c times, or 0 for the empty head, and the greatest gap behind the head.
+fn lowest_period(head: Head, reach: usize, gap: u8) -> u8
     requires { ⌜ head .0 ≤ longest ⌝ }
-    requires { ⌜ gap ≡ greatestGap (drop (head .0) (now word)) ⌝ }
-    ensures { λ r. ⌜ r ≡ lowestPeriod (now (word .entry)) (head .0) ⌝ }
+    requires { ⌜ reach ≤ longest ⌝ }
+    ensures { λ r. ⌜ r ≡ lowestAbove (head .0) reach gap ⌝ }
 {
     let h = head.0;
-    if word.len() <= 2 * h {
-        return UNTRIED;
-    }
     let mut lowest = h + 1;
     let half = ((gap as usize) + 1) / 2;
     if lowest < half {
         lowest = half;
     }
-    let mut j = 0;
-    while j < LETTERS {
-        let c = counts[h][j] as usize;
-        if 0 < c {
-            let at = select[j][2 * c - 1] as usize;
-            if at == 0 {
-                return UNTRIED;
-            }
-            if lowest + h < at {
-                lowest = at - h;
-            }
-        }
-        j += 1;
+    if lowest + h < reach {
+        lowest = reach - h;
     }
     lowest as u8
 }
 
 // The lowest period to try with each head h, from 0 to the longest word's length: L(h), or 255 where the head is too long for a pair in
-// range or is ruled out. A pair in range is tried exactly where its period is not below its head's entry.
+// range or is ruled out. A pair in range is tried exactly where its period is not below its head's entry. With one letter more, of which
+// it then has c, a head asks for one position more, that of the letter's occurrence number 2c, which lies behind those that the shorter
+// heads ask for of this letter. So the reach is the greatest position asked for so far; and where the letter has no such occurrence, the
+// head is ruled out, and so is every longer one.
 pub(crate) fn lowest_periods(word: &[u8], counts: &[[u8; LETTERS]; ROWS]) -> [u8; ROWS]
     requires { ⌜ Counted (now word) (now counts) ⌝ }
     ensures { λ r. ⌜ r ≡ lowestPeriods (now (word .entry)) ⌝ }
@@ -109,10 +88,20 @@ pub(crate) fn lowest_periods(word: &[u8], counts: &[[u8; LETTERS]; ROWS]) -> [u8
     find_positions(word, counts, &mut select);
     let gaps = greatest_gaps(word, counts, &select);
     let mut lowest = [UNTRIED; ROWS];
+    let mut reach: usize = 0;
     let mut h = 0;
-    while h < ROWS {
-        lowest[h] = lowest_period(word, counts, &select, Head(h), gaps[h]);
+    while 2 * h < word.len() {
+        lowest[h] = lowest_period(Head(h), reach, gaps[h]);
+        let place = (word[h] - FIRST_LETTER) as usize;
         h += 1;
+        let c = counts[h][place] as usize;
+        let at = select[place][2 * c - 1] as usize;
+        if at == 0 {
+            return lowest;
+        }
+        if reach < at {
+            reach = at;
+        }
     }
     lowest
 }

@@ -8,7 +8,7 @@ use lib.ListN.{length, take, getD}
 use borrow.Author.Needs.{needs}
 use Rattle.abelian.specs.Words.{alphabetSize, firstLetter, longest, count}
 use Rattle.words.proofs.Vectors.{letter-at}
-use Rattle.listers.proofs.Positions.{Found, counted-entry, counted-small, nothing-found, next-found, all-found}
+use Rattle.listers.proofs.Positions.{Found, counted-entry, letter-small, nothing-found, next-found, all-found}
 use Rattle.listers.proofs.lowest.find_positions.Statement.{statement}
 use Rattle.listers.proofs.lowest.find_positions.Tie as tie
 
@@ -71,7 +71,7 @@ module _ (c : tie.After-k Inv-loop μ-loop) where
   read = counted-entry w table (c .before .before .before .before .pre .0) i (omega arith) (getD w i 0 - firstLetter) place
 
   small : getD (getD table i []) (getD w i 0 - firstLetter) 0 ≤ i
-  small = counted-small w table (c .before .before .before .before .pre .0) i (omega arith) (getD w i 0 - firstLetter) place
+  small = letter-small w table (c .before .before .before .before .pre .0) i (omega arith) i (omega arith)
 
 cast-k : tie.Need-cast-k Inv-loop μ-loop
 unfolding firstLetter longest

@@ -10,7 +10,7 @@ use borrow.Author.Needs.{needs}
 use Rattle.abelian.specs.Words.{alphabetSize, firstLetter, longest, count}
 use Rattle.abelian.specs.Trials.{occurrence, greatestGap}
 use Rattle.words.proofs.Vectors.{letter-at}
-use Rattle.listers.proofs.Positions.{counted-entry, counted-small, position-at, position-fits}
+use Rattle.listers.proofs.Positions.{letter-counted, letter-small, letter-position, position-fits}
 use Rattle.listers.proofs.Gaps.{Gaps, gap-length, gap-more, no-gaps, more-gaps, all-gaps}
 use Rattle.listers.proofs.lowest.greatest_gaps.Statement.{statement}
 use Rattle.listers.proofs.lowest.greatest_gaps.Tie as tie
@@ -48,21 +48,17 @@ module _ (c : tie.After-shared-slice-known Inv-loop μ-loop) where
   letter : (firstLetter ≤ byte) × (byte < firstLetter + alphabetSize)
   letter = letter-at w (i - 1) (at-loop .before .pre .0 .all) (omega arith)
 
-  -- its place, and the entry of the table of prefix counts: how often it stands in the first i letters
-  place : byte - firstLetter < alphabetSize
-  place = omega (arith, letter)
-
-  same : firstLetter + (byte - firstLetter) ≡ byte
-  same = omega (arith, letter)
-
+  -- its entry in the table of prefix counts: how often it stands in the first i letters
   abbrev k : ℕ
   k = getD (getD (at-loop .before .args .counts .now) i []) (byte - firstLetter) 0
 
   read : k ≡ count byte (take i w)
-  read = counted-entry w (at-loop .before .args .counts .now) (at-loop .before .pre .0) i (at-loop .loop .inv .within) (byte - firstLetter) place ∙ ap (λ (b : ℕ). count b (take i w)) same
+  read = letter-counted w (at-loop .before .args .counts .now) (at-loop .before .pre .0) (i - 1) (omega arith) i (at-loop .loop .inv .within)
 
-  small : k ≤ i
-  small = counted-small w (at-loop .before .args .counts .now) (at-loop .before .pre .0) i (at-loop .loop .inv .within) (byte - firstLetter) place
+  small : k ≤ longest
+  small =
+      let b = at-loop .loop .inv .within in
+      omega (arith, letter-small w (at-loop .before .args .counts .now) (at-loop .before .pre .0) (i - 1) (omega arith) i b, at-loop .before .pre .0 .short)
 
   -- the letter's next occurrence
   abbrev next : ℕ
@@ -70,9 +66,8 @@ module _ (c : tie.After-shared-slice-known Inv-loop μ-loop) where
 
   next-occurrence : next ≡ occurrence byte (suc (count byte (take i w))) w
   next-occurrence =
-      ap (λ (a : List (List ℕ)). getD (getD a (byte - firstLetter) []) k 0) (at-loop .before .pre .1)
-      ∙ position-at w (byte - firstLetter) k place (omega (arith, small, at-loop .loop .inv .within, at-loop .before .pre .0 .short))
-      ∙ ap₂ (λ (b n : ℕ). occurrence b (suc n) w) same read
+      letter-position w (at-loop .before .args .counts .now) (at-loop .before .pre .0) (i - 1) (omega arith) (at-loop .before .args .select .now) (at-loop .before .pre .1) k small
+      ∙ ap (λ (n : ℕ). occurrence byte (suc n) w) read
 
   gap-small : at-loop .loop .gap ≤ length w
   gap-small = omega (arith, at-loop .loop .inv .last, gap-length (drop i w), length-drop i w)
@@ -126,7 +121,7 @@ unfolding firstLetter
 cast-next c =
     let d = c .before .before in
     let s = at-loop d .before in
-    position-fits (w d) (s .args .select .now) (s .pre .0 .short) (s .pre .1) (byte d - firstLetter) _ (place d) (omega (arith, small d, at-loop d .loop .inv .within, s .pre .0 .short))
+    position-fits (w d) (s .args .counts .now) (s .pre .0) (i d - 1) (omega arith) (s .args .select .now) (s .pre .1) (k d) (small d)
 
 add-if1 : tie.Need-add-if1 Inv-loop μ-loop
 unfolding longest
