@@ -4,10 +4,10 @@ use crate::row_heads;
 use crate::row_start;
 use abelian::BOARD;
 use abelian::Head;
-use abelian::LETTERS;
 use abelian::Period;
 use periods::holds;
 use words::ROWS;
+use words::WIDTH;
 ghost use mathlib.Core.Path.{_≡_};
 ghost use Prim.Native.Nat.{_≤_};
 ghost use lib.ListN.{length};
@@ -18,7 +18,7 @@ ghost use Rattle.board.specs.Ending.{rowEnded, rowOpen, allEnded};
 // Ends the pairs of one period, and returns how many were tried: those in range whose entry was 0.
 fn end_row(
     word: &[u8],
-    counts: &[[u8; LETTERS]; ROWS],
+    counts: &[[u8; WIDTH]; ROWS],
     period: Period,
     board: &mut [u8; BOARD],
 ) -> usize
@@ -47,7 +47,7 @@ fn end_row(
 }
 
 // Ends the pairs of every period, and returns how many were tried: the pairs in range for the word whose entry was 0.
-pub fn end_pairs(word: &[u8], counts: &[[u8; LETTERS]; ROWS], board: &mut [u8; BOARD]) -> usize
+pub fn end_pairs(word: &[u8], counts: &[[u8; WIDTH]; ROWS], board: &mut [u8; BOARD]) -> usize
     requires { ⌜ Counted (now word) (now counts) ⌝ }
     requires { ⌜ length (now board) ≡ boardSize ⌝ }
     ensures { λ r. ⌜ r ≡ length (openPairs (length (now (word .entry))) (now (board .entry))) ⌝ }

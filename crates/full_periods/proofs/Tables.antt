@@ -16,6 +16,7 @@ use Rattle.abelian.specs.FullPeriods.{distances}
 use Rattle.abelian.proofs.Tests.{is-false, decided}
 use Rattle.abelian.proofs.Lists.{length-upFrom, mem-upFrom, keep-agree, below-or-not}
 use Rattle.words.proofs.Vectors.{map-upFrom-at}
+use Rattle.words.proofs.Padded.{zeros-at}
 use Rattle.full_periods.specs.Marks.{Steps, marks, isMarked, marked}
 use Rattle.words.proofs.Lists.{keep-rises}
 use Rattle.full_periods.proofs.Lists.{keep-more, keep-no-more, largest-more, lastOf, lastOf-more, distances-more}
@@ -56,12 +57,6 @@ pub record Marking (f : ℕ → Bool) (table : List ℕ) (i : ℕ) : Type 0 wher
   pub size : length table ≡ suc longest
   pub passed : (k : ℕ) → k < i → k ≤ longest → getD table k 0 ≡ one (f k)
   pub ahead : (k : ℕ) → i ≤ k → getD table k 0 ≡ 0
-
--- no entry of a table of zeros is another number
-zeros-at : (n k : ℕ) → _≡_ {A = ℕ} (getD (replicate n 0) k 0) 0
-zeros-at zero k = refl
-zeros-at (suc n) zero = refl
-zeros-at (suc n) (suc k) = zeros-at n k
 
 module _ (f : ℕ → Bool) where
   -- a table of zeros marks nothing

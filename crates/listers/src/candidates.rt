@@ -4,7 +4,9 @@ use crate::passing::pass_over;
 use abelian::BOARD;
 use board::count_open;
 use board::ending::end_pairs;
-use words::prefix_counts;
+use words::ROWS;
+use words::WIDTH;
+use words::count_prefixes;
 ghost use mathlib.Core.Path.{_≡_};
 ghost use Prim.Native.Nat.{_≤_};
 ghost use lib.Dec.{T};
@@ -25,7 +27,8 @@ pub(crate) fn try_candidates(word: &[u8], board: &mut [u8; BOARD]) -> usize
     ensures { λ r. ⌜ r ≡ length (openPairs (length (now (word .entry))) (othersPassed (now (word .entry)) (now (board .entry)))) ⌝ }
     ensures { λ _. ⌜ now (board .exit) ≡ allEnded (now (word .entry)) (othersPassed (now (word .entry)) (now (board .entry))) ⌝ }
 {
-    let counts = prefix_counts(word);
+    let mut counts = [[0u8; WIDTH]; ROWS];
+    count_prefixes(word, &mut counts);
     let lowest = lowest_periods(word, &counts);
     pass_over(word.len(), &lowest, board);
     end_pairs(word, &counts, board)

@@ -14,8 +14,10 @@ use board::ending::end_pairs;
 use board::write_open;
 use candidates::number_of_periods;
 use candidates::try_candidates;
+use words::ROWS;
+use words::WIDTH;
 use words::check_word;
-use words::prefix_counts;
+use words::count_prefixes;
 ghost use mathlib.Core.Path.{_≡_};
 ghost use Prim.Native.Nat.{_≤_};
 ghost use Rattle.abelian.specs.Words.{longest};
@@ -45,7 +47,8 @@ pub fn list_plain(word: &[u8], out: &mut [u32]) -> Listed
     if let Outcome::Refused(refusal) = check_word(word) {
         return Listed::Refused(refusal);
     }
-    let counts = prefix_counts(word);
+    let mut counts = [[0u8; WIDTH]; ROWS];
+    count_prefixes(word, &mut counts);
     let mut board = [0u8; BOARD];
     let tried = end_pairs(word, &counts, &mut board);
     list_open(&board, word.len(), tried, out)
@@ -70,7 +73,8 @@ pub fn count_plain(word: &[u8]) -> Needed
     if let Outcome::Refused(refusal) = check_word(word) {
         return Needed::Refused(refusal);
     }
-    let counts = prefix_counts(word);
+    let mut counts = [[0u8; WIDTH]; ROWS];
+    count_prefixes(word, &mut counts);
     let mut board = [0u8; BOARD];
     end_pairs(word, &counts, &mut board);
     Needed::Words(count_open(&board, word.len()))

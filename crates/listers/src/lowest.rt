@@ -3,6 +3,7 @@ use abelian::FIRST_LETTER;
 use abelian::Head;
 use abelian::LETTERS;
 use words::ROWS;
+use words::WIDTH;
 ghost use mathlib.Core.Path.{_≡_};
 ghost use Prim.Native.Nat.{_≤_};
 ghost use Rattle.abelian.specs.Words.{longest};
@@ -15,7 +16,7 @@ const UNTRIED: u8 = 255;
 // The positions of each letter's occurrences, in a table of zeros that the caller lends: entry k of a letter's row is the position of its
 // occurrence number k + 1, or 0 where the letter has no more than k. Each letter of the word is read once, since the row of the letters
 // before it says which occurrence it is.
-fn find_positions(word: &[u8], counts: &[[u8; LETTERS]; ROWS], found: &mut [[u8; ROWS]; LETTERS])
+fn find_positions(word: &[u8], counts: &[[u8; WIDTH]; ROWS], found: &mut [[u8; ROWS]; LETTERS])
     requires { ⌜ Counted (now word) (now counts) ⌝ }
     requires { ⌜ now found ≡ noPositions ⌝ }
     ensures { λ _. ⌜ now (found .exit) ≡ positions (now (word .entry)) ⌝ }
@@ -33,7 +34,7 @@ fn find_positions(word: &[u8], counts: &[[u8; LETTERS]; ROWS], found: &mut [[u8;
 // brings one distance more, that to the letter's next occurrence.
 fn greatest_gaps(
     word: &[u8],
-    counts: &[[u8; LETTERS]; ROWS],
+    counts: &[[u8; WIDTH]; ROWS],
     select: &[[u8; ROWS]; LETTERS],
 ) -> [u8; ROWS]
     requires { ⌜ Counted (now word) (now counts) ⌝ }
@@ -80,7 +81,7 @@ fn lowest_period(head: Head, reach: usize, gap: u8) -> u8
 // it then has c, a head asks for one position more, that of the letter's occurrence number 2c, which lies behind those that the shorter
 // heads ask for of this letter. So the reach is the greatest position asked for so far; and where the letter has no such occurrence, the
 // head is ruled out, and so is every longer one.
-pub(crate) fn lowest_periods(word: &[u8], counts: &[[u8; LETTERS]; ROWS]) -> [u8; ROWS]
+pub(crate) fn lowest_periods(word: &[u8], counts: &[[u8; WIDTH]; ROWS]) -> [u8; ROWS]
     requires { ⌜ Counted (now word) (now counts) ⌝ }
     ensures { λ r. ⌜ r ≡ lowestPeriods (now (word .entry)) ⌝ }
 {

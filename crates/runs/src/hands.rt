@@ -1,8 +1,9 @@
 // Where the whole blocks of a run end, and how long its hands are.
-use abelian::LETTERS;
 use words::ROWS;
-use words::parts::between;
+use words::WIDTH;
+use words::parts::difference;
 use words::parts::exceeds;
+use words::parts::row;
 ghost use mathlib.Core.Path.{_≡_};
 ghost use Prim.Native.Nat.{_+_, _≤_};
 ghost use lib.Dec.{T};
@@ -10,7 +11,7 @@ ghost use lib.ListN.{length};
 ghost use Rattle.abelian.specs.Words.{vector};
 ghost use Rattle.abelian.specs.Squares.{isSquare};
 ghost use Rattle.abelian.specs.Runs.{runEnd};
-ghost use Rattle.words.specs.Prefixes.{Counted};
+ghost use Rattle.words.specs.Prefixes.{padded, Counted};
 ghost use Rattle.squares.specs.Marks.{startMarks};
 ghost use Rattle.runs.specs.Hands.{beside, room, handOf};
 
@@ -28,23 +29,23 @@ pub(crate) fn run_end(word: &[u8], marks: &[u8], period: usize, start: usize) ->
     last - 1 + 2 * period
 }
 
-// The counts of the letters in a stretch on one side of a place.
+// The counts of the letters in a stretch on one side of a place, as a row.
 fn count_beside(
     word: &[u8],
-    table: &[[u8; LETTERS]; ROWS],
+    table: &[[u8; WIDTH]; ROWS],
     before: bool,
     at: usize,
     size: usize,
-) -> [u8; LETTERS]
+) -> [u8; WIDTH]
     requires { ⌜ Counted (now word) (now table) ⌝ }
     requires { ⌜ at ≤ length (now word) ⌝ }
     requires { ⌜ size ≤ room (now word) before at ⌝ }
-    ensures { λ r. ⌜ r ≡ vector (beside (now (word .entry)) before at size) ⌝ }
+    ensures { λ r. ⌜ r ≡ padded (vector (beside (now (word .entry)) before at size)) ⌝ }
 {
     if before {
-        between(table, at - size, at)
+        difference(row(table, at), row(table, at - size))
     } else {
-        between(table, at, at + size)
+        difference(row(table, at + size), row(table, at))
     }
 }
 
@@ -60,7 +61,7 @@ fn letters_beside(word: &[u8], before: bool, at: usize) -> usize
 // the lengths are halved until two neighbours are left.
 pub(crate) fn hand(
     word: &[u8],
-    table: &[[u8; LETTERS]; ROWS],
+    table: &[[u8; WIDTH]; ROWS],
     period: usize,
     start: usize,
     before: bool,
@@ -71,7 +72,8 @@ pub(crate) fn hand(
     requires { ⌜ at ≤ length (now word) ⌝ }
     ensures { λ r. ⌜ r ≡ handOf (now (word .entry)) period start before at ⌝ }
 {
-    let block = between(table, start - 1, start - 1 + period);
+    let first = start - 1;
+    let block = difference(row(table, first + period), row(table, first));
     let letters = letters_beside(word, before, at);
     let mut hand = 0;
     let mut past = if letters < period {

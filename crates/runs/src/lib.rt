@@ -13,6 +13,10 @@ use output::write_runs;
 use squares::CANDIDATES;
 use squares::marks::mark_squares;
 use starts::count_words;
+use words::ROWS;
+use words::WIDTH;
+use words::check_word;
+use words::count_prefixes;
 ghost use mathlib.Core.Path.{_≡_};
 ghost use mathlib.Core.List.{List};
 ghost use Prim.Native.Nat.{ℕ, _≤_};
@@ -37,10 +41,11 @@ pub fn places() -> usize
 pub fn list_runs(word: &[u8], out: &mut [u32]) -> Wrote
     ensures { λ r. ⌜ answeredWrote r (now (out .exit)) ≡ runListing (now (word .entry)) (now (out .entry)) ⌝ }
 {
-    if let Outcome::Refused(refusal) = words::check_word(word) {
+    if let Outcome::Refused(refusal) = check_word(word) {
         return Wrote::Refused(refusal);
     }
-    let table = words::prefix_counts(word);
+    let mut table = [[0u8; WIDTH]; ROWS];
+    count_prefixes(word, &mut table);
     let mut marks = [0u8; CANDIDATES];
     mark_squares(word, &table, &mut marks);
     let needed = count_words(word, &marks);
@@ -55,10 +60,11 @@ pub fn list_runs(word: &[u8], out: &mut [u32]) -> Wrote
 pub fn count_runs(word: &[u8]) -> Needed
     ensures { λ r. ⌜ answeredNeeded r ≡ runCount (now (word .entry)) ⌝ }
 {
-    if let Outcome::Refused(refusal) = words::check_word(word) {
+    if let Outcome::Refused(refusal) = check_word(word) {
         return Needed::Refused(refusal);
     }
-    let table = words::prefix_counts(word);
+    let mut table = [[0u8; WIDTH]; ROWS];
+    count_prefixes(word, &mut table);
     let mut marks = [0u8; CANDIDATES];
     mark_squares(word, &table, &mut marks);
     Needed::Words(count_words(word, &marks))

@@ -2,8 +2,8 @@
 use crate::hands::hand;
 use crate::hands::run_end;
 use crate::starts::starts_run;
-use abelian::LETTERS;
 use words::ROWS;
+use words::WIDTH;
 ghost use mathlib.Core.Path.{_≡_};
 ghost use Prim.Native.Nat.{_*_, _≤_};
 ghost use lib.Dec.{T};
@@ -50,7 +50,7 @@ fn hands_word(end: usize, left: usize, right: usize) -> u32
 // Writes the two words of the run that begins with the square at a start.
 fn write_run(
     word: &[u8],
-    table: &[[u8; LETTERS]; ROWS],
+    table: &[[u8; WIDTH]; ROWS],
     marks: &[u8],
     period: usize,
     start: usize,
@@ -73,7 +73,7 @@ fn write_run(
 // Writes the words of the runs of one block length into the first places of the slice, and returns how many they are.
 fn write_row(
     word: &[u8],
-    table: &[[u8; LETTERS]; ROWS],
+    table: &[[u8; WIDTH]; ROWS],
     marks: &[u8],
     period: usize,
     out: &mut [u32],
@@ -98,7 +98,7 @@ fn write_row(
 }
 
 // Writes the words of all runs into the first places of the slice, each block length's behind those of the smaller ones.
-pub(crate) fn write_runs(word: &[u8], table: &[[u8; LETTERS]; ROWS], marks: &[u8], out: &mut [u32])
+pub(crate) fn write_runs(word: &[u8], table: &[[u8; WIDTH]; ROWS], marks: &[u8], out: &mut [u32])
     requires { ⌜ Counted (now word) (now table) ⌝ }
     requires { ⌜ take (length (squareMarks (now word))) (now marks) ≡ squareMarks (now word) ⌝ }
     requires { ⌜ length (runWords (now word)) ≤ length (now out) ⌝ }

@@ -11,6 +11,10 @@ use abelian::Refusal;
 use abelian::Wrote;
 use marks::mark_squares;
 use output::write_squares;
+use words::ROWS;
+use words::WIDTH;
+use words::check_word;
+use words::count_prefixes;
 ghost use mathlib.Core.Path.{_≡_};
 ghost use Prim.Native.Nat.{_≤_};
 ghost use lib.Dec.{T};
@@ -27,10 +31,11 @@ pub const CANDIDATES: usize = (LONGEST / 2) * (LONGEST / 2);
 pub fn list_squares(word: &[u8], out: &mut [u32]) -> Wrote
     ensures { λ r. ⌜ answeredWrote r (now (out .exit)) ≡ squareListing (now (word .entry)) (now (out .entry)) ⌝ }
 {
-    if let Outcome::Refused(refusal) = words::check_word(word) {
+    if let Outcome::Refused(refusal) = check_word(word) {
         return Wrote::Refused(refusal);
     }
-    let table = words::prefix_counts(word);
+    let mut table = [[0u8; WIDTH]; ROWS];
+    count_prefixes(word, &mut table);
     let mut marks = [0u8; CANDIDATES];
     let needed = mark_squares(word, &table, &mut marks);
     if needed > out.len() {
@@ -46,16 +51,17 @@ pub fn number_of_squares(word: &[u8]) -> usize
     requires { ⌜ length (now word) ≤ longest ⌝ }
     ensures { λ r. ⌜ r ≡ length (squareWords (now (word .entry))) ⌝ }
 {
-    let counts = words::prefix_counts(word);
+    let mut table = [[0u8; WIDTH]; ROWS];
+    count_prefixes(word, &mut table);
     let mut marks = [0u8; CANDIDATES];
-    mark_squares(word, &counts, &mut marks)
+    mark_squares(word, &table, &mut marks)
 }
 
 // How many squares the word has.
 pub fn count_squares(word: &[u8]) -> Needed
     ensures { λ r. ⌜ answeredNeeded r ≡ squareCount (now (word .entry)) ⌝ }
 {
-    if let Outcome::Refused(refusal) = words::check_word(word) {
+    if let Outcome::Refused(refusal) = check_word(word) {
         return Needed::Refused(refusal);
     }
     Needed::Words(number_of_squares(word))

@@ -1,9 +1,10 @@
 // Marks of the candidates of a word, by half length and then by start: 1 where the two halves have equal count vectors, 0 where they
 // differ. The vectors are differences of the rows of the table of prefix counts, so that no letter is counted anew.
-use abelian::LETTERS;
 use words::ROWS;
-use words::parts::between;
-use words::parts::differs;
+use words::WIDTH;
+use words::parts::difference;
+use words::parts::row;
+use words::parts::rows_differ;
 ghost use mathlib.Core.Path.{_≡_};
 ghost use Prim.Native.Nat.{_+_, _*_, _≤_};
 ghost use lib.ListN.{length};
@@ -14,7 +15,7 @@ ghost use Rattle.words.specs.Prefixes.{Counted};
 ghost use Rattle.squares.specs.Marks.{startMarks, squareMarks};
 
 // The mark of one candidate, whose halves lie in the word.
-fn mark(word: &[u8], table: &[[u8; LETTERS]; ROWS], half: usize, start: usize) -> u8
+fn mark(word: &[u8], table: &[[u8; WIDTH]; ROWS], half: usize, start: usize) -> u8
     requires { ⌜ Counted (now word) (now table) ⌝ }
     requires { ⌜ 1 ≤ start ⌝ }
     requires { ⌜ start + 2 * half ≤ length (now word) + 1 ⌝ }
@@ -22,16 +23,13 @@ fn mark(word: &[u8], table: &[[u8; LETTERS]; ROWS], half: usize, start: usize) -
 {
     let from = start - 1;
     let middle = from + half;
-    let first = between(table, from, middle);
-    if differs(first, between(table, middle, middle + half)) {
-        0
-    } else {
-        1
-    }
+    let first = difference(row(table, middle), row(table, from));
+    let second = difference(row(table, middle + half), row(table, middle));
+    if rows_differ(first, second) { 0 } else { 1 }
 }
 
 // Marks the candidates of one half length in the first places of the slice, and returns how many of them are squares.
-fn mark_starts(word: &[u8], table: &[[u8; LETTERS]; ROWS], half: usize, marks: &mut [u8]) -> usize
+fn mark_starts(word: &[u8], table: &[[u8; WIDTH]; ROWS], half: usize, marks: &mut [u8]) -> usize
     requires { ⌜ Counted (now word) (now table) ⌝ }
     requires { ⌜ 2 * half ≤ length (now word) ⌝ }
     requires { ⌜ length (startMarks (now word) half) ≤ length (now marks) ⌝ }
@@ -52,7 +50,7 @@ fn mark_starts(word: &[u8], table: &[[u8; LETTERS]; ROWS], half: usize, marks: &
 
 // Marks all candidates in the first places of the slice, the half lengths one behind the other, and returns how many squares the word
 // has. Also for the crates above.
-pub fn mark_squares(word: &[u8], table: &[[u8; LETTERS]; ROWS], marks: &mut [u8]) -> usize
+pub fn mark_squares(word: &[u8], table: &[[u8; WIDTH]; ROWS], marks: &mut [u8]) -> usize
     requires { ⌜ Counted (now word) (now table) ⌝ }
     requires { ⌜ length (squareMarks (now word)) ≤ length (now marks) ⌝ }
     ensures { λ r. ⌜ r ≡ length (squareWords (now (word .entry))) ⌝ }

@@ -4,8 +4,10 @@ use abelian::BOARD;
 use abelian::LONGEST;
 use abelian::Outcome;
 use board::ending::end_pairs;
+use words::ROWS;
+use words::WIDTH;
 use words::check_word;
-use words::prefix_counts;
+use words::count_prefixes;
 ghost use mathlib.Core.Path.{_≡_};
 ghost use mathlib.Core.Bool.{false};
 ghost use mathlib.Core.List.{map};
@@ -57,7 +59,8 @@ pub(crate) fn store_letter(
     bytes[at] = letter;
     let all = &bytes[..];
     let word = &all[..longer];
-    let counts = prefix_counts(word);
+    let mut counts = [[0u8; WIDTH]; ROWS];
+    count_prefixes(word, &mut counts);
     end_pairs(word, &counts, board);
     *len = longer;
 }

@@ -1,12 +1,12 @@
 -- Laws of two vectors, place by place: none above, the same, and the difference.
-use mathlib.Core.Path.{_≡_, refl, sym, ap}
+use mathlib.Core.Path.{_≡_, refl, sym, ap, _∙_}
 use mathlib.Core.Bool.{Bool, true, false, not, _&&_, _||_, and-assoc, and-true}
 use mathlib.Core.Logic.{⊎-elim}
-use mathlib.Core.List.{List, [], _∷_}
+use mathlib.Core.List.{List, [], _∷_, _++_}
 use Prim.Native.Nat.{ℕ, zero, suc, _+_, _-_, _≤_, _<_}
 use native.Mathlib.Numerals.{add-one}
 use native.Mathlib.Omega.{arith}
-use lib.ListN.{length, take, getD}
+use lib.ListN.{length, take, getD, replicate}
 use lib.Seq.{take-all}
 use lib.Dec.{T, leb, ltb, leb→le}
 use borrow.Author.Tests.{leb-true, leb-false, lt-ltb, le-ltb}
@@ -33,6 +33,17 @@ module _ (test : ℕ → ℕ → Bool) (through : List ℕ → List ℕ → Bool
   through-more (a ∷ u) (b ∷ v) zero l m = rw (cons a b [] [], none) (and-true (test a b))
   through-more (a ∷ u) (b ∷ v) (suc j) l m =
       rw (cons, cons, through-more u v j (omega arith) (omega arith)) (sym (and-assoc (test a b) (through (take j u) (take j v)) (test (getD u j 0) (getD v j 0))))
+
+  -- zeros behind both lists change nothing, where the test passes two zeros
+  zeros-pass : test 0 0 ≡ true → (k : ℕ) → through (replicate k 0) (replicate k 0) ≡ true
+  zeros-pass z zero = none
+  zeros-pass z (suc k) = rw (cons, z, zeros-pass z k)
+
+  pub through-zeros : test 0 0 ≡ true → (k : ℕ) (u v : List ℕ) → length u ≡ length v → through (u ++ replicate k 0) (v ++ replicate k 0) ≡ through u v
+  through-zeros z k [] [] e = zeros-pass z k ∙ sym none
+  through-zeros z k [] (b ∷ v) e = absurd (omega arith)
+  through-zeros z k (a ∷ u) [] e = absurd (omega arith)
+  through-zeros z k (a ∷ u) (b ∷ v) e = rw (cons, cons, through-zeros z k u v (omega arith))
 
   module _ (u v : List ℕ) (found : Bool) (j : ℕ) (e : found ≡ not (through (take j u) (take j v))) where
     -- one place more

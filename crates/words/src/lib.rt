@@ -7,9 +7,10 @@ use abelian::LETTERS;
 use abelian::LONGEST;
 use abelian::Outcome;
 use abelian::Refusal;
+use parts::count_more;
 ghost use mathlib.Core.Path.{_≡_};
 ghost use mathlib.Core.Bool.{false};
-ghost use Prim.Native.Nat.{_≤_};
+ghost use Prim.Native.Nat.{suc, _≤_};
 ghost use lib.Dec.{T};
 ghost use lib.ListN.{length};
 ghost use Rattle.abelian.specs.Words.{alphabetSize, longest, isLetter, firstOutside, ofLetters, vector};
@@ -19,6 +20,9 @@ ghost use Rattle.words.specs.Prefixes.{prefixCounts};
 
 // The rows of the table of prefix counts: one for each length of a prefix, 0 to the longest word.
 pub const ROWS: usize = LONGEST + 1;
+
+// The places of a row: a count for each letter, and behind the counts zeros up to a number of places that fills whole vectors of a machine.
+pub const WIDTH: usize = 32;
 
 // Whether the byte is a letter.
 pub fn is_letter(byte: u8) -> bool
@@ -87,24 +91,24 @@ pub fn count_letters(part: &[u8]) -> [u8; LETTERS]
     counts
 }
 
-// The counts of the letters in each prefix of the word: row i has those of the first i letters, and the rows behind the word's end
-// repeat those of the whole word. Each letter is read once, since a row is the one before it with one count more.
-// For the crates above.
-pub fn prefix_counts(word: &[u8]) -> [[u8; LETTERS]; ROWS]
+// Fills the table with the counts of the letters in each prefix of the word: row i has those of the first i letters, and the rows behind
+// the word's end repeat those of the whole word. Each letter is read once, since a row is the one before it with one count more. The table
+// is lent, so that it lies on the stack once. For the crates above.
+pub fn count_prefixes(word: &[u8], table: &mut [[u8; WIDTH]; ROWS])
     requires { ⌜ T (ofLetters (now word)) ⌝ }
     requires { ⌜ length (now word) ≤ longest ⌝ }
-    ensures { λ r. ⌜ r ≡ prefixCounts (now (word .entry)) ⌝ }
+    requires { ⌜ length (now table) ≡ suc longest ⌝ }
+    ensures { λ _. ⌜ now (table .exit) ≡ prefixCounts (now (word .entry)) ⌝ }
 {
-    let mut table = [[0u8; LETTERS]; ROWS];
-    let mut row = [0u8; LETTERS];
+    let mut row = [0u8; WIDTH];
+    table[0] = row;
     let mut i = 0;
     while i < LONGEST {
         if i < word.len() {
-            let place = (word[i] - FIRST_LETTER) as usize;
-            row[place] += 1;
+            let more = count_more(row, word[i] - FIRST_LETTER);
+            row = more;
         }
         table[i + 1] = row;
         i += 1;
     }
-    table
 }

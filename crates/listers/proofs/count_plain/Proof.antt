@@ -35,23 +35,24 @@ module _ (c : tie.After-enum-told) where
   may : T (ofLetters word) × (length word ≤ longest)
   may = accepted-word word (c .before .before .check-word .ensures) (c .enum-told .given .1)
 
-prefix-counts-requires : tie.Need-prefix-counts-requires
-prefix-counts-requires c κs = may c
+count-prefixes-requires : tie.Need-count-prefixes-requires
+unfolding longest
+count-prefixes-requires c κs = let told = c .before in (may told .0, (may told .1, refl))
 
 end-pairs-requires : tie.Need-end-pairs-requires
 unfolding boardSize
 end-pairs-requires c κs =
-    let told = c .before .before .before in
-    (record { all = may told .0; short = may told .1; rows = c .before .before .prefix-counts .ensures }, refl)
+    let told = c .before .before .before .before in
+    (record { all = may told .0; short = may told .1; rows = c .before .before .count-prefixes .ensures }, refl)
 
 count-open-requires : tie.Need-count-open-requires
-count-open-requires c κs = let told = c .before .before .before .before .before in may told .1
+count-open-requires c κs = let told = c .before .before .before .before .before .before in may told .1
 
 returns-2 : tie.Need-returns-2
 unfolding periodCount zeros boardSize
 returns-2 c =
     let ended = c .before .before in
-    let told = ended .before .before .before .before in
+    let told = ended .before .before .before .before .before in
     accepted-count (word told) (told .before .before .check-word .ensures) (told .enum-told .given .1) _
     (c .count-open .ensures ∙ open-count (word told) _ (ap (openPairs (length (word told))) (ended .end-pairs .ensures .1) ∙ ended-periods (word told) (may told .1)))
 
@@ -63,7 +64,7 @@ count-plain-spec =
     enum-known-refusal
     returns
     enum-told
-    prefix-counts-requires
+    count-prefixes-requires
     end-pairs-requires
     count-open-requires
     returns-2)

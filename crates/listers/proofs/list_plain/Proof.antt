@@ -6,6 +6,7 @@ use mathlib.Core.Option.{none, some}
 use mathlib.Core.List.{List}
 use Prim.Native.Nat.{ℕ}
 use lib.ListN.{length}
+use Rattle.abelian.specs.Words.{longest}
 use Rattle.abelian.specs.Refusals.{wordRefusal}
 use Rattle.abelian.specs.Trackers.{boardSize}
 use Rattle.abelian.specs.Calls.{listing, periodWords, plainListing}
@@ -44,17 +45,18 @@ module _ (c : tie.After-enum-told) where
   accepted : wordRefusal word false 0 0 ≡ none
   accepted = accepted-none (wordRefusal word false 0 0) (sym (c .before .before .check-word .ensures) ∙ c .enum-told .given .1)
 
-prefix-counts-requires : tie.Need-prefix-counts-requires
-prefix-counts-requires c κs = (accepted-letters (word c) (accepted c), accepted-length (word c) (accepted c))
+count-prefixes-requires : tie.Need-count-prefixes-requires
+unfolding longest
+count-prefixes-requires c κs = let a = c .before in (accepted-letters (word a) (accepted a), (accepted-length (word a) (accepted a), refl))
 
 end-pairs-requires : tie.Need-end-pairs-requires
 unfolding boardSize
 end-pairs-requires c κs =
-    let a = c .before .before .before in
-    (record { all = accepted-letters (word a) (accepted a); short = accepted-length (word a) (accepted a); rows = c .before .before .prefix-counts .ensures }, refl)
+    let a = c .before .before .before .before in
+    (record { all = accepted-letters (word a) (accepted a); short = accepted-length (word a) (accepted a); rows = c .before .before .count-prefixes .ensures }, refl)
 
 list-open-requires : tie.Need-list-open-requires
-list-open-requires c κs = let a = c .before .before .before .before .before .before in accepted-length (word a) (accepted a)
+list-open-requires c κs = let a = c .before .before .before .before .before .before .before in accepted-length (word a) (accepted a)
 
 same-length : tie.Need-same-length
 same-length c = search needs
@@ -64,7 +66,7 @@ unfolding zeros boardSize
 returns-2 c =
     let l = c .before .before in
     let e = l .before .before .before in
-    let a = e .before .before .before .before in
+    let a = e .before .before .before .before .before in
     l .list-open .ensures
     ∙ plain-listed (word a) (start a .args .out .now) _ _ (accepted a) (e .end-pairs .ensures .1) (e .end-pairs .ensures .0)
 
@@ -76,7 +78,7 @@ list-plain-spec =
     enum-known-refusal
     returns
     enum-told
-    prefix-counts-requires
+    count-prefixes-requires
     end-pairs-requires
     list-open-requires
     same-length

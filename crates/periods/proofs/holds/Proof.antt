@@ -1,21 +1,21 @@
 -- `periods::holds` meets its contract. The invariant of its loop: the whole blocks up to `at` have block 1's vector. The measure is what is left of
 -- the length. Assumes nothing.
-use Prim.Native.Nat.{ℕ, suc, _<_, _-_, _+_}
-use mathlib.Core.Path.{_≡_, sym, ap, ap₂, _∙_}
+use Prim.Native.Nat.{ℕ, suc, _<_, _≤_, _-_, _+_}
+use mathlib.Core.Path.{_≡_, sym, ap, _∙_}
 use mathlib.Core.Bool.{Bool, not, Bool·not-not}
 use mathlib.Core.List.{List}
-use native.Mathlib.Nat.{zero-add}
 use native.Mathlib.Omega.{arith}
 use lib.ListN.{length}
 use borrow.Author.Needs.{needs}
 use borrow.Author.Tests.{not-true, not-false}
 use Rattle.abelian.specs.Lists.{same}
-use Rattle.abelian.specs.Words.{vector, noneAbove}
+use Rattle.abelian.specs.Words.{longest, vector, noneAbove}
 use Rattle.abelian.specs.Periods.{Pair, pair, headOf, block, wholeBlocks, tailOf, isPeriod}
 use Rattle.abelian.proofs.Tests.{passes}
 use Rattle.abelian.proofs.Lists.{same-equal}
 use Rattle.abelian.proofs.Pairs.{InRange, in-range}
-use Rattle.words.proofs.Prefixes.{counted-rises, counted-part}
+use Rattle.words.specs.Prefixes.{padded, Counted}
+use Rattle.words.proofs.Prefixes.{counted-row, counted-rises, counted-part, noneAbove-rows, same-rows}
 use Rattle.periods.proofs.Kernel.{Passed, first-block, first-passed, next-passed, next-block, next-whole, all-passed, tail-left, head-above, block-unlike, tail-decides}
 use Rattle.periods.proofs.holds.Statement.{statement}
 use Rattle.periods.proofs.holds.Tie as tie
@@ -30,138 +30,183 @@ module _ (c : tie.Start Inv-loop μ-loop) where
   abbrev w : List ℕ
   w = c .args .word .now
 
+  abbrev table : List (List ℕ)
+  table = c .args .counts .now
+
+  abbrev counted : Counted w table
+  counted = c .pre .0
+
   abbrev x : Pair
   x = pair (c .args .head .0) (c .args .period .0)
 
   range : InRange (length w) x
   range = in-range (length w) x (c .pre .1)
 
+  -- a row of the word is one of the table
+  read : (i : ℕ) → i ≤ length w → i ≤ longest
+  read i l = omega (arith, counted .short)
+
 add-at : tie.Need-add-at Inv-loop μ-loop
 add-at c = omega (arith, range (c .before) .fits)
 
-between-requires : tie.Need-between-requires Inv-loop μ-loop
-between-requires c κs =
-    let s = c .before in
-    ((omega (arith, range s .fits, s .pre .0 .short), omega (arith, range s .fits, s .pre .0 .short)), counted-rises (w s) (s .args .counts .now) (s .pre .0) (omega arith) (range s .fits))
+row-requires : tie.Need-row-requires Inv-loop μ-loop
+row-requires c κs = read (c .before) _ (range (c .before) .fits)
 
-between-requires-2 : tie.Need-between-requires-2 Inv-loop μ-loop
-between-requires-2 c κs =
-    let s = c .before .before in
-    ((omega arith, omega (arith, range s .fits, s .pre .0 .short)), counted-rises (w s) (s .args .counts .now) (s .pre .0) (omega arith) (omega (arith, range s .fits)))
+row-requires-2 : tie.Need-row-requires-2 Inv-loop μ-loop
+row-requires-2 c κs = let s = c .before .before in read s _ (omega (arith, range s .fits))
+
+difference-requires : tie.Need-difference-requires Inv-loop μ-loop
+difference-requires c κs =
+    let s = c .before .before .before in
+    counted-rises (w s) (table s) (counted s) (x s .head) (x s .period) (c .before .row .ensures) (c .row2 .ensures) (range s .fits)
+
+row-requires-3 : tie.Need-row-requires-3 Inv-loop μ-loop
+row-requires-3 c κs = let s = c .before .before .before .before in read s _ (omega (arith, range s .fits))
 
 exceeds-requires : tie.Need-exceeds-requires Inv-loop μ-loop
 exceeds-requires c κs = search needs
 
--- the vectors that the first two calls gave: block 1's and the head's
-module _ (c : tie.After-between2 Inv-loop μ-loop) where
+-- the rows of block 1 and of the head, and the head's test
+module _ (c : tie.After-exceeds Inv-loop μ-loop) where
   abbrev s : tie.Start Inv-loop μ-loop
-  s = c .before .before .before
+  s = c .before .before .before .before .before .before
 
-  first : c .before .between .result ≡ vector (block (w s) (x s) 1)
-  first = c .before .between .ensures ∙ counted-part (w s) (s .args .counts .now) (s .pre .0) (x s .head) (x s .period) (range s .fits) ∙ ap vector (sym (first-block (w s) (x s)))
+  first : c .before .before .difference .result ≡ padded (vector (block (w s) (x s) 1))
+  first =
+      let d = c .before .before in
+      counted-part (w s) (table s) (counted s) (x s .head) (x s .period) (d .before .before .row .ensures) (d .before .row2 .ensures) (range s .fits) (d .difference .ensures)
+      ∙ ap (λ (l : List ℕ). padded (vector l)) (sym (first-block (w s) (x s)))
 
-  of-head : c .between2 .result ≡ vector (headOf (w s) (x s))
+  of-head : c .before .row3 .result ≡ padded (vector (headOf (w s) (x s)))
   unfolding headOf
-  of-head = c .between2 .ensures ∙ rw zero-add at (counted-part (w s) (s .args .counts .now) (s .pre .0) 0 (x s .head) (omega (arith, range s .fits)))
+  of-head = c .before .row3 .ensures ∙ counted-row (w s) (table s) (counted s) (x s .head) (omega (arith, range s .fits))
 
--- the head's test
-head-test : (c : tie.After-exceeds Inv-loop μ-loop) → c .exceeds .result ≡ not (noneAbove (vector (headOf (w (s (c .before))) (x (s (c .before))))) (vector (block (w (s (c .before))) (x (s (c .before))) 1)))
-head-test c = c .exceeds .ensures ∙ ap₂ (λ u v. not (noneAbove u v)) (of-head (c .before)) (first (c .before))
+  head-test : c .exceeds .result ≡ not (noneAbove (vector (headOf (w s) (x s))) (vector (block (w s) (x s) 1)))
+  head-test = c .exceeds .ensures ∙ ap not (noneAbove-rows (headOf (w s) (x s)) (block (w s) (x s) 1) of-head first)
 
 returns : tie.Need-returns Inv-loop μ-loop
-returns c = sym (head-above (w (s (c .before .before))) (x (s (c .before .before))) (not-true _ (sym (head-test (c .before)) ∙ c .if1 .taken)))
+returns c = let e = c .before in sym (head-above (w (s e)) (x (s e)) (not-true _ (sym (head-test e) ∙ c .if1 .taken)))
 
 loop-holds : tie.Need-loop-holds Inv-loop μ-loop
-loop-holds c = first-passed (w (s (c .before .before))) (x (s (c .before .before))) (range (s (c .before .before)))
+loop-holds c = let e = c .before in first-passed (w (s e)) (x (s e)) (range (s e))
 
 sub-loop : tie.Need-sub-loop Inv-loop μ-loop
 sub-loop c = search needs
 
-add-between : tie.Need-add-between Inv-loop μ-loop
-add-between c = search needs
+add-row : tie.Need-add-row Inv-loop μ-loop
+add-row c = search needs
 
--- the next block's vector, and its test
-module _ (c : tie.After-differs Inv-loop μ-loop) where
-  abbrev at-loop : tie.At-loop Inv-loop μ-loop
-  at-loop = c .before .before .before
-
+-- the blocks that were passed, and one more that is whole
+module _ (c : tie.In-loop Inv-loop μ-loop) where
   abbrev t : tie.Start Inv-loop μ-loop
-  t = s (at-loop .before .before .before)
+  t = s (c .before .before .before)
 
-  abbrev passed : Passed (w t) (x t) (at-loop .loop .at)
-  passed = at-loop .loop .inv
+  abbrev at : ℕ
+  at = c .before .loop .at
+
+  abbrev passed : Passed (w t) (x t) at
+  passed = c .before .loop .inv
+
+  whole : at + x t .period ≤ length (w t)
+  whole = omega (arith, passed .within, c .loop-test .taken)
+
+row-requires-4 : tie.Need-row-requires-4 Inv-loop μ-loop
+row-requires-4 c κs = read (t c) _ (whole c)
+
+row-requires-5 : tie.Need-row-requires-5 Inv-loop μ-loop
+row-requires-5 c κs = let i = c .before in read (t i) _ (passed i .within)
+
+difference-requires-2 : tie.Need-difference-requires-2 Inv-loop μ-loop
+difference-requires-2 c κs =
+    let i = c .before .before in
+    counted-rises (w (t i)) (table (t i)) (counted (t i)) (at i) (x (t i) .period) (c .before .row4 .ensures) (c .row5 .ensures) (whole i)
+
+rows-differ-requires : tie.Need-rows-differ-requires Inv-loop μ-loop
+rows-differ-requires c κs = search needs
+
+-- the next block's test
+module _ (c : tie.After-rows-differ Inv-loop μ-loop) where
+  abbrev i : tie.In-loop Inv-loop μ-loop
+  i = c .before .before .before .before
+
+  abbrev next : List ℕ
+  next = block (w (t i)) (x (t i)) (suc (passed i .blocks))
 
   abbrev like : Bool
-  like = same (vector (block (w t) (x t) (suc (passed .blocks)))) (vector (block (w t) (x t) 1))
+  like = same (vector next) (vector (block (w (t i)) (x (t i)) 1))
 
-  next-test : c .differs .result ≡ not like
+  of-next : c .before .difference2 .result ≡ padded (vector next)
+  of-next =
+      let r = c .before .before in
+      counted-part (w (t i)) (table (t i)) (counted (t i)) (at i) (x (t i) .period) (r .before .row4 .ensures) (r .row5 .ensures) (whole i) (c .before .difference2 .ensures)
+      ∙ ap (λ (l : List ℕ). padded (vector l)) (sym (next-block (w (t i)) (x (t i)) (range (t i)) (at i) (passed i)))
+
+  next-test : c .rows-differ .result ≡ not like
   next-test =
-      c .differs .ensures
-      ∙ ap₂ (λ u v. not (same u v))
-      (c .before .between3 .ensures
-      ∙ counted-part (w t) (t .args .counts .now) (t .pre .0) (at-loop .loop .at) (x t .period) (omega (arith, passed .within, c .before .before .loop-test .taken))
-      ∙ ap vector (sym (next-block (w t) (x t) (range t) (at-loop .loop .at) passed)))
-      (first (at-loop .before .before .before))
-
-between-requires-3 : tie.Need-between-requires-3 Inv-loop μ-loop
-between-requires-3 c κs =
-    let t = s (c .before .before .before .before) in
-    let at = c .before .loop .at in (
-      (omega (arith, c .before .loop .inv .within, t .pre .0 .short), omega (arith, c .before .loop .inv .within, t .pre .0 .short)),
-      counted-rises (w t) (t .args .counts .now) (t .pre .0) (omega arith) (omega (arith, c .before .loop .inv .within)),
-    )
-
-differs-requires : tie.Need-differs-requires Inv-loop μ-loop
-differs-requires c κs = search needs
+      c .rows-differ .ensures ∙ ap not (same-rows next (block (w (t i)) (x (t i)) 1) of-next (first (i .before .before .before)))
 
 returns-2 : tie.Need-returns-2 Inv-loop μ-loop
 returns-2 c =
     let d = c .before in
-    let i = d .before .before in
-    sym (block-unlike (w (t d)) (x (t d)) (suc (passed d .blocks)) (omega arith) (next-whole (w (t d)) (x (t d)) (range (t d)) (at-loop d .loop .at) (passed d) (i .loop-test .taken))
-    (not-true _ (sym (next-test d) ∙ c .if2 .taken)))
+    sym (block-unlike (w (t (i d))) (x (t (i d))) (suc (passed (i d) .blocks)) (omega arith)
+    (next-whole (w (t (i d))) (x (t (i d))) (range (t (i d))) (at (i d)) (passed (i d)) (i d .loop-test .taken)) (not-true _ (sym (next-test d) ∙ c .if2 .taken)))
 
 add-at-2 : tie.Need-add-at-2 Inv-loop μ-loop
-add-at-2 c = search needs
+add-at-2 c = omega (arith, whole (i (c .before)))
 
 loop-less : tie.Need-loop-less Inv-loop μ-loop
-loop-less c = let d = c .before in omega (arith, range (t d) .positive, d .before .before .loop-test .taken)
+loop-less c = let d = c .before in omega (arith, range (t (i d)) .positive, i d .loop-test .taken)
 
 loop-again : tie.Need-loop-again Inv-loop μ-loop
 loop-again c =
     let d = c .before in
-    let i = d .before .before in
-    let e : vector (block (w (t d)) (x (t d)) (suc (passed d .blocks))) ≡ vector (block (w (t d)) (x (t d)) 1) =
-    same-equal _ _ (passes (like d) (not-false (like d) (sym (next-test d) ∙ c .if2 .left))) in
-    next-passed (w (t d)) (x (t d)) (range (t d)) (at-loop d .loop .at) (passed d) (i .loop-test .taken)
-    (ap vector (sym (next-block (w (t d)) (x (t d)) (range (t d)) (at-loop d .loop .at) (passed d))) ∙ e)
+    let e : vector (next d) ≡ vector (block (w (t (i d))) (x (t (i d))) 1) = same-equal _ _ (passes (like d) (not-false (like d) (sym (next-test d) ∙ c .if2 .left))) in
+    next-passed (w (t (i d))) (x (t (i d))) (range (t (i d))) (at (i d)) (passed (i d)) (i d .loop-test .taken)
+    (ap vector (sym (next-block (w (t (i d))) (x (t (i d))) (range (t (i d))) (at (i d)) (passed (i d)))) ∙ e)
 
-between-requires-4 : tie.Need-between-requires-4 Inv-loop μ-loop
-between-requires-4 c κs =
-    let v = s (c .before .before .before .before) in
-    ((omega (arith, c .before .loop .inv .within, v .pre .0 .short), v .pre .0 .short), counted-rises (w v) (v .args .counts .now) (v .pre .0) (c .before .loop .inv .within) (omega arith))
+-- no more block is whole: the tail is what is left
+module _ (c : tie.After-loop Inv-loop μ-loop) where
+  abbrev u : tie.Start Inv-loop μ-loop
+  u = s (c .before .before .before)
+
+  abbrev end : ℕ
+  end = c .before .loop .at
+
+  abbrev done : Passed (w u) (x u) end
+  done = c .before .loop .inv
+
+  rest : length (w u) ≡ end + (length (w u) - end)
+  rest = omega (arith, done .within)
+
+row-requires-6 : tie.Need-row-requires-6 Inv-loop μ-loop
+row-requires-6 c κs = read (u c) _ (omega arith)
+
+row-requires-7 : tie.Need-row-requires-7 Inv-loop μ-loop
+row-requires-7 c κs = read (u (c .before)) _ (done (c .before) .within)
+
+difference-requires-3 : tie.Need-difference-requires-3 Inv-loop μ-loop
+difference-requires-3 c κs =
+    let l = c .before .before in
+    counted-rises (w (u l)) (table (u l)) (counted (u l)) (end l) (length (w (u l)) - end l) (rw (rest l) at (c .before .row6 .ensures)) (c .row7 .ensures) (omega (arith, rest l))
 
 exceeds-requires-2 : tie.Need-exceeds-requires-2 Inv-loop μ-loop
 exceeds-requires-2 c κs = search needs
 
 returns-3 : tie.Need-returns-3 Inv-loop μ-loop
 returns-3 c =
-    let a = c .before .before .before in
-    let b = a .before .before in
-    let v = s (b .before) in
-    let p = a .loop .inv in
-    let at = a .loop .at in
-    let left : length (w v) - at < x v .period = c .before .before .loop-test .left in
-    let rest : at + (length (w v) - at) ≡ length (w v) = omega (arith, p .within) in
-    let blocks : wholeBlocks (length (w v)) (x v) ≡ p .blocks = all-passed (w v) (x v) (range v) at p left in
-    let decides : isPeriod (w v) (x v) ≡ noneAbove (vector (tailOf (w v) (x v))) (vector (block (w v) (x v) 1)) =
-    tail-decides (w v) (x v) (v .pre .0 .all) (range v) (not-false _ (sym (head-test b) ∙ a .before .if1 .left))
-    (λ k l u. p .alike k l (omega arith)) in
-    let tail : c .before .between4 .result ≡ vector (tailOf (w v) (x v)) =
-    c .before .between4 .ensures
-    ∙ rw rest at (counted-part (w v) (v .args .counts .now) (v .pre .0) at (length (w v) - at) (omega arith))
-    ∙ ap vector (sym (tail-left (w v) (x v) (range v) at p left)) in
-    ap not (c .exceeds2 .ensures) ∙ Bool·not-not _ ∙ ap₂ noneAbove tail (first (b .before)) ∙ sym decides
+    let r = c .before .before in
+    let l = r .before .before in
+    let b = l .before .before .before in
+    let p = done l in
+    let left : length (w (u l)) - end l < x (u l) .period = l .loop-test .left in
+    let blocks : wholeBlocks (length (w (u l))) (x (u l)) ≡ p .blocks = all-passed (w (u l)) (x (u l)) (range (u l)) (end l) p left in
+    let tail : c .before .difference3 .result ≡ padded (vector (tailOf (w (u l)) (x (u l)))) =
+    counted-part (w (u l)) (table (u l)) (counted (u l)) (end l) (length (w (u l)) - end l) (rw (rest l) at (r .before .row6 .ensures)) (r .row7 .ensures) (omega (arith, rest l))
+    (c .before .difference3 .ensures)
+    ∙ ap (λ (v : List ℕ). padded (vector v)) (sym (tail-left (w (u l)) (x (u l)) (range (u l)) (end l) p left)) in
+    ap not (c .exceeds2 .ensures) ∙ Bool·not-not _ ∙ noneAbove-rows (tailOf (w (u l)) (x (u l))) (block (w (u l)) (x (u l)) 1) tail (first b)
+    ∙ sym (tail-decides (w (u l)) (x (u l)) (counted (u l) .all) (range (u l)) (not-false _ (sym (head-test b) ∙ l .before .before .if1 .left))
+    (λ k a m. p .alike k a (omega arith)))
 
 pub holds-spec : {M : Type 1} → statement M
 holds-spec =
@@ -170,19 +215,25 @@ holds-spec =
     Inv-loop
     μ-loop
     add-at
-    between-requires
-    between-requires-2
+    row-requires
+    row-requires-2
+    difference-requires
+    row-requires-3
     exceeds-requires
     returns
     loop-holds
     sub-loop
-    add-between
-    between-requires-3
-    differs-requires
+    add-row
+    row-requires-4
+    row-requires-5
+    difference-requires-2
+    rows-differ-requires
     returns-2
     add-at-2
     loop-less
     loop-again
-    between-requires-4
+    row-requires-6
+    row-requires-7
+    difference-requires-3
     exceeds-requires-2
     returns-3)

@@ -1,5 +1,5 @@
 -- `runs::count_runs` meets its contract: it is refused for its word, or counts the words of the runs on the marks of the squares. Assumes nothing.
-use mathlib.Core.Path.{ap, _∙_}
+use mathlib.Core.Path.{refl, ap, _∙_}
 use mathlib.Core.List.{List}
 use Prim.Native.Nat.{ℕ, _≤_}
 use lib.ListN.{length, take}
@@ -35,8 +35,9 @@ module _ (c : tie.After-enum-told) where
   may : T (ofLetters word) × (length word ≤ longest)
   may = accepted-word word (c .before .before .check-word .ensures) (c .enum-told .given .1)
 
-prefix-counts-requires : tie.Need-prefix-counts-requires
-prefix-counts-requires c κs = may c
+count-prefixes-requires : tie.Need-count-prefixes-requires
+unfolding longest
+count-prefixes-requires c κs = let told = c .before in (may told .0, (may told .1, refl))
 
 slice-aggregate-mark-squares : tie.Need-slice-aggregate-mark-squares
 slice-aggregate-mark-squares c = search needs
@@ -44,8 +45,8 @@ slice-aggregate-mark-squares c = search needs
 mark-squares-requires : tie.Need-mark-squares-requires
 unfolding longest
 mark-squares-requires c κs =
-    let told = c .before .before .before in
-    (record { all = may told .0; short = may told .1; rows = c .before .before .prefix-counts .ensures }, candidates-bound (word told) (may told .1))
+    let told = c .before .before .before .before in
+    (record { all = may told .0; short = may told .1; rows = c .before .before .count-prefixes .ensures }, candidates-bound (word told) (may told .1))
 
 slice-aggregate-count-words : tie.Need-slice-aggregate-count-words
 slice-aggregate-count-words c = search needs
@@ -53,13 +54,13 @@ slice-aggregate-count-words c = search needs
 count-words-requires : tie.Need-count-words-requires
 count-words-requires c κs =
     let marked = c .before .before in
-    let told = marked .before .before .before .before in
+    let told = marked .before .before .before .before .before in
     (may told .1, ap (take (length (squareMarks (word told)))) (marked .mark-squares .ensures .1) ∙ take-fill (squareMarks (word told)) _)
 
 returns-2 : tie.Need-returns-2
 unfolding runCount
 returns-2 c =
-    let told = c .before .before .before .before .before .before .before in
+    let told = c .before .before .before .before .before .before .before .before in
     accepted-count (word told) (told .before .before .check-word .ensures) (told .enum-told .given .1) _ (c .count-words .ensures)
 
 pub count-runs-spec : {M : Type 1} → statement M
@@ -70,7 +71,7 @@ count-runs-spec =
     enum-known-refusal
     returns
     enum-told
-    prefix-counts-requires
+    count-prefixes-requires
     slice-aggregate-mark-squares
     mark-squares-requires
     slice-aggregate-count-words

@@ -1,5 +1,5 @@
 -- `runs::list_runs` meets its contract: each of its three answers is the definition's, since the count is that of the definition's words. Assumes nothing.
-use mathlib.Core.Path.{_≡_, sym, ap, _∙_}
+use mathlib.Core.Path.{_≡_, refl, sym, ap, _∙_}
 use mathlib.Core.Bool.{false}
 use mathlib.Core.Option.{none}
 use mathlib.Core.List.{List}
@@ -53,22 +53,23 @@ returns c =
 enum-told : tie.Need-enum-told
 enum-told c = search needs
 
-prefix-counts-requires : tie.Need-prefix-counts-requires
-prefix-counts-requires c κs = (accepted-letters (w c) (accepted c), accepted-length (w c) (accepted c))
+count-prefixes-requires : tie.Need-count-prefixes-requires
+unfolding longest
+count-prefixes-requires c κs = let told = c .before in (accepted-letters (w told) (accepted told), (accepted-length (w told) (accepted told), refl))
 
 slice-aggregate-mark-squares : tie.Need-slice-aggregate-mark-squares
 slice-aggregate-mark-squares c = search needs
 
 -- the table is that of the word's prefix counts
-counted : (c : tie.After-prefix-counts) → Counted (w (c .before)) (c .prefix-counts .result)
+counted : (c : tie.After-count-prefixes) → Counted (w (c .before .before)) (c .count-prefixes .last .1 .0)
 counted c =
-    let told = c .before in
-    record { all = accepted-letters (w told) (accepted told); short = accepted-length (w told) (accepted told); rows = c .prefix-counts .ensures }
+    let told = c .before .before in
+    record { all = accepted-letters (w told) (accepted told); short = accepted-length (w told) (accepted told); rows = c .count-prefixes .ensures }
 
 mark-squares-requires : tie.Need-mark-squares-requires
 unfolding longest
 mark-squares-requires c κs =
-    let told = c .before .before .before in
+    let told = c .before .before .before .before in
     (counted (c .before .before), candidates-bound (w told) (accepted-length (w told) (accepted told)))
 
 slice-aggregate-count-words : tie.Need-slice-aggregate-count-words
@@ -77,20 +78,20 @@ slice-aggregate-count-words c = search needs
 -- the marks are in the first places
 module _ (c : tie.After-mark-squares) where
   abbrev squares : List ℕ
-  squares = squareMarks (w (c .before .before .before .before))
+  squares = squareMarks (w (c .before .before .before .before .before))
 
   marked : take (length squares) (c .mark-squares .last .1 .1 .0) ≡ squares
   marked = ap (take (length squares)) (c .mark-squares .ensures .1) ∙ take-fill squares _
 
 count-words-requires : tie.Need-count-words-requires
 count-words-requires c κs =
-    let told = c .before .before .before .before .before .before in
+    let told = c .before .before .before .before .before .before .before in
     (accepted-length (w told) (accepted told), marked (c .before .before))
 
 returns-2 : tie.Need-returns-2
 unfolding runListing
 returns-2 c =
-    let told = c .before .before .before .before .before .before .before .before in
+    let told = c .before .before .before .before .before .before .before .before .before in
     let call = c .before .count-words in
     counted-short (w told) (out told) (runWords (w told)) 0 0 0 (accepted told) (call .result) (call .ensures) (c .if1 .taken)
 
@@ -112,7 +113,7 @@ returns-3 : tie.Need-returns-3
 unfolding runListing
 returns-3 c =
     let counting = c .before .before .before .before .before .before .before in
-    let told = counting .before .before .before .before .before .before .before in
+    let told = counting .before .before .before .before .before .before .before .before in
     ap (writing (counting .count-words .result) 0 0 0) (c .before .before .write-runs .ensures)
     ∙ counted-written (w told) (out told) (runWords (w told)) 0 0 0 (accepted told) (counting .count-words .result) (counting .count-words .ensures)
     (c .before .before .before .before .before .before .if1 .left)
@@ -125,7 +126,7 @@ list-runs-spec =
     enum-known-refusal
     returns
     enum-told
-    prefix-counts-requires
+    count-prefixes-requires
     slice-aggregate-mark-squares
     mark-squares-requires
     slice-aggregate-count-words

@@ -1,6 +1,6 @@
 -- `squares::list_squares` meets its contract: each of its three answers is the definition's, since the count is that of the definition's words.
 -- Assumes nothing.
-use mathlib.Core.Path.{_≡_, sym, ap, _∙_}
+use mathlib.Core.Path.{_≡_, refl, sym, ap, _∙_}
 use mathlib.Core.Bool.{false}
 use mathlib.Core.Option.{none}
 use mathlib.Core.List.{List}
@@ -53,8 +53,9 @@ returns c =
 enum-told : tie.Need-enum-told
 enum-told c = search needs
 
-prefix-counts-requires : tie.Need-prefix-counts-requires
-prefix-counts-requires c κs = (accepted-letters (w c) (accepted c), accepted-length (w c) (accepted c))
+count-prefixes-requires : tie.Need-count-prefixes-requires
+unfolding longest
+count-prefixes-requires c κs = let told = c .before in (accepted-letters (w told) (accepted told), (accepted-length (w told) (accepted told), refl))
 
 slice-aggregate-mark-squares : tie.Need-slice-aggregate-mark-squares
 slice-aggregate-mark-squares c = search needs
@@ -62,15 +63,15 @@ slice-aggregate-mark-squares c = search needs
 mark-squares-requires : tie.Need-mark-squares-requires
 unfolding longest
 mark-squares-requires c κs =
-    let told = c .before .before .before in (
-      record { all = accepted-letters (w told) (accepted told); short = accepted-length (w told) (accepted told); rows = c .before .before .prefix-counts .ensures },
+    let told = c .before .before .before .before in (
+      record { all = accepted-letters (w told) (accepted told); short = accepted-length (w told) (accepted told); rows = c .before .before .count-prefixes .ensures },
       candidates-bound (w told) (accepted-length (w told) (accepted told)),
     )
 
 returns-2 : tie.Need-returns-2
 unfolding squareListing
 returns-2 c =
-    let told = c .before .before .before .before .before .before in
+    let told = c .before .before .before .before .before .before .before in
     let call = c .before .before .mark-squares in
     counted-short (w told) (out told) (squareWords (w told)) 0 0 0 (accepted told) (call .result) (call .ensures .0) (c .if1 .taken)
 
@@ -80,7 +81,7 @@ slice-aggregate-write-squares c = search needs
 write-squares-requires : tie.Need-write-squares-requires
 write-squares-requires c κs =
     let marked = c .before .before .before .before in
-    let told = marked .before .before .before .before in (
+    let told = marked .before .before .before .before .before in (
       accepted-length (w told) (accepted told),
       (
         ap (take (length (squareMarks (w told)))) (marked .mark-squares .ensures .1) ∙ take-fill (squareMarks (w told)) _,
@@ -95,7 +96,7 @@ returns-3 : tie.Need-returns-3
 unfolding squareListing
 returns-3 c =
     let marked = c .before .before .before .before .before .before .before in
-    let told = marked .before .before .before .before in
+    let told = marked .before .before .before .before .before in
     ap (writing (marked .mark-squares .result) 0 0 0) (c .before .before .write-squares .ensures)
     ∙ counted-written (w told) (out told) (squareWords (w told)) 0 0 0 (accepted told) (marked .mark-squares .result) (marked .mark-squares .ensures .0)
     (c .before .before .before .before .before .if1 .left)
@@ -108,7 +109,7 @@ list-squares-spec =
     enum-known-refusal
     returns
     enum-told
-    prefix-counts-requires
+    count-prefixes-requires
     slice-aggregate-mark-squares
     mark-squares-requires
     returns-2

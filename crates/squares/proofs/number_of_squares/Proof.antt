@@ -5,8 +5,9 @@ use Rattle.squares.proofs.Candidates.{candidates-bound}
 use Rattle.squares.proofs.number_of_squares.Statement.{statement}
 use Rattle.squares.proofs.number_of_squares.Tie as tie
 
-prefix-counts-requires : tie.Need-prefix-counts-requires
-prefix-counts-requires c κs = search needs
+count-prefixes-requires : tie.Need-count-prefixes-requires
+unfolding longest
+count-prefixes-requires c κs = search needs
 
 slice-aggregate-mark-squares : tie.Need-slice-aggregate-mark-squares
 slice-aggregate-mark-squares c = search needs
@@ -14,11 +15,11 @@ slice-aggregate-mark-squares c = search needs
 mark-squares-requires : tie.Need-mark-squares-requires
 unfolding longest
 mark-squares-requires c κs =
-    let start = c .before .before .before .before in
+    let start = c .before .before .before .before .before in
     (search needs, candidates-bound (start .args .word .now) (start .pre .1))
 
 returns : tie.Need-returns
 returns c = search needs
 
 pub number-of-squares-spec : {M : Type 1} → statement M
-number-of-squares-spec = tie.close (tie.spec prefix-counts-requires slice-aggregate-mark-squares mark-squares-requires returns)
+number-of-squares-spec = tie.close (tie.spec count-prefixes-requires slice-aggregate-mark-squares mark-squares-requires returns)

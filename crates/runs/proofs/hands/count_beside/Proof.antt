@@ -1,68 +1,106 @@
--- `runs::hands::count_beside` meets its contract: on either side the difference of two rows is the vector of the stretch. Assumes nothing.
+-- `runs::hands::count_beside` meets its contract: on either side the difference of two rows is the row of the stretch. Assumes nothing.
 use mathlib.Core.Path.{_≡_, sym, ap, subst, _∙_}
 use mathlib.Core.Bool.{Bool}
-use Prim.Native.Nat.{_+_, _-_, _≤_}
+use mathlib.Core.List.{List}
+use Prim.Native.Nat.{ℕ, _+_, _-_, _≤_}
 use native.Mathlib.Omega.{arith}
 use lib.ListN.{length}
 use Rattle.abelian.specs.Words.{vector}
+use Rattle.words.specs.Prefixes.{padded, Counted}
 use Rattle.words.proofs.Prefixes.{counted-rises, counted-part}
 use Rattle.runs.specs.Hands.{beside, room}
 use Rattle.runs.proofs.hands.count_beside.Statement.{statement}
 use Rattle.runs.proofs.hands.count_beside.Tie as tie
 
+module _ (c : tie.Start) where
+  abbrev w : List ℕ
+  w = c .args .word .now
+
+  abbrev table : List (List ℕ)
+  table = c .args .table .now
+
+  abbrev counted : Counted w table
+  counted = c .pre .0
+
+  abbrev at : ℕ
+  at = c .args .at
+
+  abbrev size : ℕ
+  size = c .args .size
+
 -- there are as many letters on that side
-before-there : (c : tie.Then1) → c .before .before .args .size ≤ c .before .before .args .at
-before-there c =
-    let start = c .before .before in
-    subst (λ (b : Bool). start .args .size ≤ room (start .args .word .now) b (start .args .at)) (c .if1 .taken) (start .pre .1 .1)
+module _ (c : tie.Then1) where
+  abbrev s : tie.Start
+  s = c .before .before
 
-behind-there : (c : tie.Else1) → c .before .before .args .size ≤ length (c .before .before .args .word .now) - c .before .before .args .at
-behind-there c =
-    let start = c .before .before in
-    subst (λ (b : Bool). start .args .size ≤ room (start .args .word .now) b (start .args .at)) (c .if1 .left) (start .pre .1 .1)
+  before-there : size s ≤ at s
+  before-there = subst (λ (b : Bool). size s ≤ room (w s) b (at s)) (c .if1 .taken) (s .pre .1 .1)
 
-sub-between : tie.Need-sub-between
-sub-between c = before-there c
+  back : at s ≡ at s - size s + size s
+  back = omega (arith, before-there)
 
-between-requires : tie.Need-between-requires
-between-requires c κs =
-    let start = c .before .before in (
-      (omega (arith, start .pre .0 .short, start .pre .1 .0), omega (arith, start .pre .0 .short, start .pre .1 .0)),
-      counted-rises (start .args .word .now) (start .args .table .now) (start .pre .0) (omega arith) (start .pre .1 .0),
-    )
+module _ (c : tie.Else1) where
+  abbrev t : tie.Start
+  t = c .before .before
 
-add-between : tie.Need-add-between
-add-between c = omega (arith, behind-there c)
+  behind-there : at t + size t ≤ length (w t)
+  behind-there = omega (arith, t .pre .1 .0, subst (λ (b : Bool). size t ≤ room (w t) b (at t)) (c .if1 .left) (t .pre .1 .1))
 
-between-requires-2 : tie.Need-between-requires-2
-between-requires-2 c κs =
-    let start = c .before .before in (
-      (omega (arith, start .pre .0 .short, start .pre .1 .0), omega (arith, start .pre .0 .short, start .pre .1 .0, behind-there c)),
-      counted-rises (start .args .word .now) (start .args .table .now) (start .pre .0) (omega arith) (omega (arith, behind-there c, start .pre .1 .0)),
-    )
+row-requires : tie.Need-row-requires
+row-requires c κs = omega (arith, counted (s c) .short, s c .pre .1 .0)
+
+sub-row : tie.Need-sub-row
+sub-row c = before-there (c .before)
+
+row-requires-2 : tie.Need-row-requires-2
+row-requires-2 c κs = omega (arith, counted (s (c .before)) .short, s (c .before) .pre .1 .0)
+
+difference-requires : tie.Need-difference-requires
+difference-requires c κs =
+    let d = c .before .before in
+    counted-rises (w (s d)) (table (s d)) (counted (s d)) (at (s d) - size (s d)) (size (s d)) (rw (back d) at (c .before .row .ensures)) (c .row2 .ensures)
+    (omega (arith, back d, s d .pre .1 .0))
+
+add-row : tie.Need-add-row
+add-row c = omega (arith, behind-there c)
+
+row-requires-3 : tie.Need-row-requires-3
+row-requires-3 c κs = omega (arith, counted (t c) .short, behind-there c)
+
+row-requires-4 : tie.Need-row-requires-4
+row-requires-4 c κs = omega (arith, counted (t (c .before)) .short, t (c .before) .pre .1 .0)
+
+difference-requires-2 : tie.Need-difference-requires-2
+difference-requires-2 c κs =
+    let d = c .before .before in
+    counted-rises (w (t d)) (table (t d)) (counted (t d)) (at (t d)) (size (t d)) (c .before .row3 .ensures) (c .row4 .ensures) (behind-there d)
 
 returns : tie.Need-returns
 returns c =
-    let start = c .before .before .before in
-    let w = start .args .word .now in
-    let at = start .args .at in
-    let size = start .args .size in
-    let e : at - size + size ≡ at = omega (arith, before-there (c .before)) in
-    c .between .ensures
-    ∙ (rw e at (counted-part w (start .args .table .now) (start .pre .0) (at - size) size (omega (arith, e, start .pre .1 .0))))
-    ∙ ap (λ (b : Bool). vector (beside w b at size)) (sym (c .before .if1 .taken))
+    let r = c .before in
+    let d = r .before .before in
+    counted-part (w (s d)) (table (s d)) (counted (s d)) (at (s d) - size (s d)) (size (s d)) (rw (back d) at (r .before .row .ensures)) (r .row2 .ensures)
+    (omega (arith, back d, s d .pre .1 .0)) (c .difference .ensures)
+    ∙ ap (λ (b : Bool). padded (vector (beside (w (s d)) b (at (s d)) (size (s d))))) (sym (d .if1 .taken))
 
 returns-2 : tie.Need-returns-2
 returns-2 c =
-    let start = c .before .before .before in
-    let w = start .args .word .now in
-    let at = start .args .at in
-    let size = start .args .size in
-    c .between2 .ensures
-    ∙ counted-part w (start .args .table .now) (start .pre .0) at size (omega (arith, behind-there (c .before), start .pre .1 .0))
-    ∙ ap (λ (b : Bool). vector (beside w b at size)) (sym (c .before .if1 .left))
+    let r = c .before in
+    let d = r .before .before in
+    counted-part (w (t d)) (table (t d)) (counted (t d)) (at (t d)) (size (t d)) (r .before .row3 .ensures) (r .row4 .ensures) (behind-there d) (c .difference2 .ensures)
+    ∙ ap (λ (b : Bool). padded (vector (beside (w (t d)) b (at (t d)) (size (t d))))) (sym (d .if1 .left))
 
 pub count-beside-spec : {M : Type 1} → statement M
 count-beside-spec =
     tie.close
-    (tie.spec sub-between between-requires add-between between-requires-2 returns returns-2)
+    (tie.spec
+    row-requires
+    sub-row
+    row-requires-2
+    difference-requires
+    add-row
+    row-requires-3
+    row-requires-4
+    difference-requires-2
+    returns
+    returns-2)

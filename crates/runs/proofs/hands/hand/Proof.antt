@@ -1,6 +1,6 @@
 -- `runs::hands::hand` meets its contract. The invariant of its loop: a stretch of `hand` letters is contained in the block, and none of `past` letters or
 -- more. The measure is the lengths between them. Assumes nothing.
-use mathlib.Core.Path.{_≡_, sym, ap₂, _∙_}
+use mathlib.Core.Path.{_≡_, sym, ap, _∙_}
 use mathlib.Core.Logic.{⊎-elim}
 use mathlib.Core.Bool.{Bool, not}
 use mathlib.Core.List.{List}
@@ -11,36 +11,38 @@ use borrow.Author.Needs.{needs}
 use borrow.Author.Tests.{not-true, not-false}
 use Rattle.abelian.specs.Words.{vector, noneAbove, part}
 use Rattle.abelian.proofs.Tests.{passes, fails}
-use Rattle.words.proofs.Prefixes.{counted-rises, counted-part}
+use Rattle.words.proofs.Prefixes.{counted-rises, counted-part, noneAbove-rows}
 use Rattle.runs.specs.Hands.{beside}
 use Rattle.runs.proofs.Halving.{Placed, Halving, halving-first, halving-down, halving-up, halving-done}
 use Rattle.runs.proofs.hands.hand.Statement.{statement}
 use Rattle.runs.proofs.hands.hand.Tie as tie
 
 abbrev Inv-loop : tie.InvT-loop
-Inv-loop word table period start before at block letters hand₀ past₀ hand past = Halving word period start before at hand past
+Inv-loop word table period start before at first block letters hand₀ past₀ hand past = Halving word period start before at hand past
 
 abbrev μ-loop : tie.MeasureT-loop
-μ-loop word table period start before at block letters hand₀ past₀ hand past = past - hand
+μ-loop word table period start before at first block letters hand₀ past₀ hand past = past - hand
 
 placed : (c : tie.Start Inv-loop μ-loop) → Placed (c .args .word .now) (c .args .period) (c .args .start) (c .args .at)
 placed c = record { letters = c .pre .0 .all; start = c .pre .1 .0 .1; whole = c .pre .1 .0 .2; inside = c .pre .1 .1 }
 
-sub-between : tie.Need-sub-between Inv-loop μ-loop
-sub-between c = search needs
+sub-first : tie.Need-sub-first Inv-loop μ-loop
+sub-first c = search needs
 
-sub-between-2 : tie.Need-sub-between-2 Inv-loop μ-loop
-sub-between-2 c = search needs
+add-row : tie.Need-add-row Inv-loop μ-loop
+add-row c = search needs
 
-add-between : tie.Need-add-between Inv-loop μ-loop
-add-between c = search needs
+row-requires : tie.Need-row-requires Inv-loop μ-loop
+row-requires c κs = search needs
 
-between-requires : tie.Need-between-requires Inv-loop μ-loop
-between-requires c κs =
-    let start = c .before in (
-      (omega (arith, start .pre .0 .short, start .pre .1 .0), omega (arith, start .pre .0 .short, start .pre .1 .0)),
-      counted-rises (start .args .word .now) (start .args .table .now) (start .pre .0) (omega arith) (omega (arith, start .pre .1 .0)),
-    )
+row-requires-2 : tie.Need-row-requires-2 Inv-loop μ-loop
+row-requires-2 c κs = search needs
+
+difference-requires : tie.Need-difference-requires Inv-loop μ-loop
+difference-requires c κs =
+    let start = c .before .before .before in
+    counted-rises (start .args .word .now) (start .args .table .now) (start .pre .0) (start .args .start - 1) (start .args .period) (c .before .row .ensures) (c .row2 .ensures)
+    (omega (arith, start .pre .1 .0))
 
 letters-beside-requires : tie.Need-letters-beside-requires Inv-loop μ-loop
 letters-beside-requires c κs = search needs
@@ -50,7 +52,7 @@ add-past c = search needs
 
 loop-holds : tie.Need-loop-holds Inv-loop μ-loop
 loop-holds c =
-    let start = c .before .before .before .before in
+    let start = c .before .before .before .before .before .before in
     halving-first (start .args .word .now) (start .args .period) (start .args .start) (start .args .before) (start .args .at) (placed start)
     (c .if1 .past) (start .pre .1 .0 .0)
     (⊎-elim (λ t. omega (arith, t .0 .taken, t .1, c .before .letters-beside .ensures))
@@ -75,7 +77,7 @@ module _ (c : tie.After-exceeds Inv-loop μ-loop) where
   at-loop = c .before .before .before .before
 
   abbrev start : tie.Start Inv-loop μ-loop
-  start = at-loop .before .before .before .before .before
+  start = at-loop .before .before .before .before .before .before .before
 
   abbrev w : List ℕ
   w = start .args .word .now
@@ -107,9 +109,11 @@ module _ (c : tie.After-exceeds Inv-loop μ-loop) where
 
   compared : c .exceeds .result ≡ not fits
   compared =
+      let first = at-loop .before .before .before in
       c .exceeds .ensures
-      ∙ ap₂ (λ (u v : List ℕ). not (noneAbove u v)) (c .before .count-beside .ensures)
-      (at-loop .before .before .before .between .ensures ∙ counted-part w (start .args .table .now) (start .pre .0) (i - 1) d (omega (arith, start .pre .1 .0)))
+      ∙ ap not (noneAbove-rows (beside w before at middle) (part w (i - 1) d) (c .before .count-beside .ensures)
+      (counted-part w (start .args .table .now) (start .pre .0) (i - 1) d (first .before .before .row .ensures) (first .before .row2 .ensures) (omega (arith, start .pre .1 .0))
+      (first .difference .ensures)))
 
   -- the lengths are halved either way
   down : (T fits → ⊥) → Halving w d i before at hand middle
@@ -132,7 +136,7 @@ loop-again-2 c = up (c .before) (passes (fits (c .before)) (not-false (fits (c .
 
 returns : tie.Need-returns Inv-loop μ-loop
 returns c =
-    let start = c .before .before .before .before .before .before in
+    let start = c .before .before .before .before .before .before .before .before in
     halving-done (start .args .word .now) (start .args .period) (start .args .start) (start .args .before) (start .args .at) (placed start)
     (c .before .loop .hand) (c .before .loop .past) (c .before .loop .inv) (omega arith)
 
@@ -142,10 +146,11 @@ hand-spec =
     (tie.spec
     Inv-loop
     μ-loop
-    sub-between
-    sub-between-2
-    add-between
-    between-requires
+    sub-first
+    add-row
+    row-requires
+    row-requires-2
+    difference-requires
     letters-beside-requires
     add-past
     loop-holds

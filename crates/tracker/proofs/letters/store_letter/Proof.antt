@@ -1,6 +1,6 @@
 -- `tracker::letters::store_letter` meets its contract: the letters then held are a word, whose prefixes are counted and whose pairs are ended.
 -- Assumes nothing.
-use mathlib.Core.Path.{_≡_, sym, _∙_}
+use mathlib.Core.Path.{_≡_, refl, sym, _∙_}
 use mathlib.Core.List.{List}
 use Prim.Native.Nat.{ℕ, _+_, _≤_, _<_}
 use native.Mathlib.Omega.{arith}
@@ -61,18 +61,19 @@ element-write-bytes c = search needs
 slice-aggregate-word : tie.Need-slice-aggregate-word
 slice-aggregate-word c = sym (size (c .before .before .before .before))
 
-prefix-counts-requires : tie.Need-prefix-counts-requires
-prefix-counts-requires c κs = let w = c .before .before .before .before in (letters w, short w)
+count-prefixes-requires : tie.Need-count-prefixes-requires
+unfolding longest
+count-prefixes-requires c κs = let w = c .before .before .before .before .before in (letters w, (short w, refl))
 
 end-pairs-requires : tie.Need-end-pairs-requires
 end-pairs-requires c κs =
     let counted = c .before .before in
-    let w = counted .before .before .before .before .before in
-    (record { all = letters w; short = short w; rows = counted .prefix-counts .ensures }, w .whole .ensures .1)
+    let w = counted .before .before .before .before .before .before in
+    (record { all = letters w; short = short w; rows = counted .count-prefixes .ensures }, w .whole .ensures .1)
 
 returns : tie.Need-returns
 returns c =
-    let w = c .before .before .before .before .before .before .before .before in
+    let w = c .before .before .before .before .before .before .before .before .before in
     letter-added (old w) (letter w) (c .end-pairs .ensures .1)
 
 pub store-letter-spec : {M : Type 1} → statement M
@@ -83,6 +84,6 @@ store-letter-spec =
     add-longer
     element-write-bytes
     slice-aggregate-word
-    prefix-counts-requires
+    count-prefixes-requires
     end-pairs-requires
     returns)

@@ -1,5 +1,5 @@
--- `words::parts::difference` meets its contract. The invariant of its loop: the counts of the letters passed are the differences. The measure is
--- what is left of the letters. Assumes nothing.
+-- `words::parts::difference` meets its contract. The invariant of its loop: the counts of the places passed are the differences. The measure is
+-- what is left of the places. Assumes nothing.
 use mathlib.Core.List.{List}
 use Prim.Native.Nat.{ℕ, _≤_, _<_, _-_}
 use mathlib.Core.Path.{_≡_, sym, _∙_}
@@ -8,48 +8,48 @@ use lib.ListN.{length, getD, set, length-set}
 use lib.Seq.{ext-getD, getD-set-same, getD-set-other}
 use borrow.Author.Count.{below-more}
 use borrow.Author.Needs.{needs}
-use Rattle.abelian.specs.Words.{alphabetSize}
 use Rattle.words.specs.Differences.{minus}
+use Rattle.words.specs.Prefixes.{width}
 use Rattle.words.proofs.Pairwise.{noneAbove-at, minus-at, length-minus}
 use Rattle.words.proofs.parts.difference.Statement.{statement}
 use Rattle.words.proofs.parts.difference.Tie as tie
 
 abbrev Inv-loop : tie.InvT-loop
-Inv-loop longer shorter counts₀ j₀ counts j = (length counts ≡ alphabetSize) × (j ≤ alphabetSize) × ((k : ℕ) → k < j → getD counts k 0 ≡ getD longer k 0 - getD shorter k 0)
+Inv-loop longer shorter counts₀ j₀ counts j = (length counts ≡ width) × (j ≤ width) × ((k : ℕ) → k < j → getD counts k 0 ≡ getD longer k 0 - getD shorter k 0)
 
 abbrev μ-loop : tie.MeasureT-loop
-μ-loop longer shorter counts₀ j₀ counts j = alphabetSize - j
+μ-loop longer shorter counts₀ j₀ counts j = width - j
 
 loop-holds : tie.Need-loop-holds Inv-loop μ-loop
-unfolding alphabetSize
+unfolding width
 loop-holds c = search needs
 
 array-read-counts : tie.Need-array-read-counts Inv-loop μ-loop
-unfolding alphabetSize
+unfolding width
 array-read-counts c = search needs
 
 array-read-counts-2 : tie.Need-array-read-counts-2 Inv-loop μ-loop
-unfolding alphabetSize
+unfolding width
 array-read-counts-2 c = search needs
 
 sub-counts : tie.Need-sub-counts Inv-loop μ-loop
-unfolding alphabetSize
+unfolding width
 sub-counts c = noneAbove-at (c .before .before .args .t2) (c .before .before .args .t1) (c .before .before .pre) (c .before .loop .j) (omega arith)
 
 array-write-counts : tie.Need-array-write-counts Inv-loop μ-loop
-unfolding alphabetSize
+unfolding width
 array-write-counts c = search needs
 
 add-j : tie.Need-add-j Inv-loop μ-loop
-unfolding alphabetSize
+unfolding width
 add-j c = search needs
 
 loop-less : tie.Need-loop-less Inv-loop μ-loop
-unfolding alphabetSize
+unfolding width
 loop-less c = search needs
 
 loop-again : tie.Need-loop-again Inv-loop μ-loop
-unfolding alphabetSize
+unfolding width
 loop-again c =
     let longer = c .before .before .args .t1 in
     let shorter = c .before .before .args .t2 in
@@ -65,7 +65,7 @@ loop-again c =
     )
 
 returns : tie.Need-returns Inv-loop μ-loop
-unfolding alphabetSize
+unfolding width
 returns c =
     let longer = c .before .before .args .t1 in
     let shorter = c .before .before .args .t2 in

@@ -1,5 +1,5 @@
 -- `words::parts::exceeds` meets its contract. The invariant of its loop: whether the counts passed have one above. The measure is what is left of the
--- letters. Assumes nothing.
+-- places. Assumes nothing.
 use mathlib.Core.Path.{_≡_, refl}
 use mathlib.Core.Bool.{not}
 use Prim.Native.Nat.{_≤_, _-_}
@@ -7,39 +7,40 @@ use native.Mathlib.Omega.{arith}
 use lib.ListN.{take, getD}
 use lib.Dec.{leb}
 use borrow.Author.Needs.{needs}
-use Rattle.abelian.specs.Words.{alphabetSize, noneAbove}
+use Rattle.abelian.specs.Words.{noneAbove}
+use Rattle.words.specs.Prefixes.{width}
 use Rattle.words.proofs.Pairwise.{above-not-le, fails-more, fails-all}
 use Rattle.words.proofs.parts.exceeds.Statement.{statement}
 use Rattle.words.proofs.parts.exceeds.Tie as tie
 
 abbrev Inv-loop : tie.InvT-loop
-Inv-loop u v found₀ j₀ found j = (j ≤ alphabetSize) × (found ≡ not (noneAbove (take j u) (take j v)))
+Inv-loop u v found₀ j₀ found j = (j ≤ width) × (found ≡ not (noneAbove (take j u) (take j v)))
 
 abbrev μ-loop : tie.MeasureT-loop
-μ-loop u v found₀ j₀ found j = alphabetSize - j
+μ-loop u v found₀ j₀ found j = width - j
 
 loop-holds : tie.Need-loop-holds Inv-loop μ-loop
 unfolding noneAbove
 loop-holds c = (omega arith, refl)
 
 array-read-found : tie.Need-array-read-found Inv-loop μ-loop
-unfolding alphabetSize
+unfolding width
 array-read-found c = search needs
 
 array-read-found-2 : tie.Need-array-read-found-2 Inv-loop μ-loop
-unfolding alphabetSize
+unfolding width
 array-read-found-2 c = search needs
 
 add-j : tie.Need-add-j Inv-loop μ-loop
-unfolding alphabetSize
+unfolding width
 add-j c = search needs
 
 loop-less : tie.Need-loop-less Inv-loop μ-loop
-unfolding alphabetSize
+unfolding width
 loop-less c = omega (arith, c .loop-test .taken)
 
 loop-again : tie.Need-loop-again Inv-loop μ-loop
-unfolding alphabetSize noneAbove
+unfolding width noneAbove
 loop-again c =
     let u = c .before .before .args .t1 in
     let v = c .before .before .args .t2 in
@@ -47,7 +48,7 @@ loop-again c =
     (omega arith, fails-more leb noneAbove refl (λ a b u v. refl) u v _ j (c .before .loop .inv .1) _ (omega arith) (omega arith) (above-not-le (getD u j 0) (getD v j 0)))
 
 returns : tie.Need-returns Inv-loop μ-loop
-unfolding alphabetSize noneAbove
+unfolding width noneAbove
 returns c =
     let start = c .before .before in
     fails-all leb noneAbove refl (λ a b u v. refl) (start .args .t1) (start .args .t2) _ (c .before .loop .j) (c .before .loop .inv .1) (omega arith) (omega arith)
