@@ -20,7 +20,7 @@ use Rattle.abelian.proofs.Lists.{length-upFrom}
 use Rattle.abelian.proofs.Counts.{count-le-length}
 use Rattle.words.proofs.Vectors.{letter-at, map-upFrom-at}
 use Rattle.words.specs.Prefixes.{Counted}
-use Rattle.words.proofs.Prefixes.{entry-count}
+use Rattle.words.proofs.Prefixes.{prefixRow-at, counted-row}
 use Rattle.listers.specs.Lowest.{positions, noPositions}
 use Rattle.listers.proofs.Select.{count-here, count-elsewhere, occurrence-is, occurrence-none, occurrence-length}
 
@@ -52,7 +52,7 @@ module _ (w : List ℕ) where
 
 -- an entry of the table of prefix counts: how often the letter of the place stands in the prefix
 pub counted-entry : (w : List ℕ) (table : List (List ℕ)) → Counted w table → (i : ℕ) → i ≤ length w → (j : ℕ) → j < alphabetSize → getD (getD table i []) j 0 ≡ count (firstLetter + j) (take i w)
-counted-entry w table t i l j place = ap (λ (a : List (List ℕ)). getD (getD a i []) j 0) (t .rows) ∙ entry-count w j place i (omega (arith, t .short))
+counted-entry w table t i l j place = ap (λ (row : List ℕ). getD row j 0) (counted-row w table t i l) ∙ prefixRow-at w i j place
 
 -- the letter at a position
 module _ (w : List ℕ) (table : List (List ℕ)) (t : Counted w table) (i : ℕ) (l : i < length w) where

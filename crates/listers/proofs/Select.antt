@@ -118,7 +118,7 @@ module _ (c k : ℕ) (w : List ℕ) where
       go (yes l) = occurrence-found p l .within
       go (no l) = rw (occurrence-none (omega arith)) (omega arith)
 
--- a later occurrence has the greater position
+-- positions rise with the number of the occurrence
 pub occurrence-rises : (c k m : ℕ) (w : List ℕ) → 1 ≤ k → k ≤ m → m ≤ count c w → occurrence c k w ≤ occurrence c m w
 occurrence-rises c k m w p l r = let o = occurrence-found c m w (omega arith) r in occurrence-le c k w (occurrence c m w) p (o .within) (omega (arith, o .reached))
 

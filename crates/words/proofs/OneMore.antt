@@ -56,7 +56,7 @@ raised-at counts place j l =
     rw e (omega arith))
     (decided (eqb place j))
 
--- is at most one more than what was there
+-- and at most one is added
 pub byte-le-1 : (b : Bool) → boolByte b ≤ 1
 byte-le-1 true = omega arith
 byte-le-1 false = omega arith

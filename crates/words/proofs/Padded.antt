@@ -4,7 +4,7 @@ use mathlib.Core.List.{List, [], _∷_, _++_}
 use mathlib.Core.Logic.{⊎-elim}
 use Prim.Native.Nat.{ℕ, zero, suc, _+_, _-_, _≤_, _<_}
 use native.Mathlib.Omega.{arith}
-use lib.ListN.{length, getD, set, replicate, length-append, length-replicate, List·getD-append}
+use lib.ListN.{length, getD, set, replicate, List·getD-append}
 use lib.Seq.{set-append-left, getD-append-add}
 use lib.Dec.{eqb, leb}
 use Rattle.abelian.specs.Lists.{same}
@@ -26,10 +26,6 @@ abbrev zeros : List ℕ
 zeros = replicate (width - alphabetSize) 0
 
 module _ (v : List ℕ) (e : length v ≡ alphabetSize) where
-  pub length-padded : length (padded v) ≡ width
-  unfolding padded width alphabetSize
-  length-padded = omega (arith, e, length-append v zeros, length-replicate {A = ℕ} (width - alphabetSize) 0)
-
   -- the counts are the first places
   pub padded-at : (j : ℕ) → j < alphabetSize → getD (padded v) j 0 ≡ getD v j 0
   unfolding padded

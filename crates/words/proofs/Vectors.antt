@@ -11,10 +11,10 @@ use lib.Seq.{ext-getD, take-suc, take-all, getD-set-same, getD-set-other}
 use lib.Dec.{T, eqb}
 use borrow.Author.Tests.{eqb-true, eqb-false}
 use Rattle.abelian.specs.Lists.{one, upFrom}
-use Rattle.abelian.specs.Words.{alphabetSize, firstLetter, letters, ofLetters, count, vector, noneAbove}
+use Rattle.abelian.specs.Words.{alphabetSize, firstLetter, letters, ofLetters, count, vector}
 use Rattle.abelian.proofs.Tests.{decided}
 use Rattle.abelian.proofs.Lists.{mem-upFrom, upFrom-mem, length-upFrom}
-use Rattle.abelian.proofs.Counts.{count-append, count-le-length, noneAbove-counts, counts-noneAbove, letter-bounds, letters-inside}
+use Rattle.abelian.proofs.Counts.{count-append, count-le-length, letter-bounds, letters-inside}
 
 -- ---- letters and their places
 
@@ -59,27 +59,6 @@ module _ (u : List ℕ) where
   pub counts-are-vector : (l : List ℕ) → length l ≡ alphabetSize → ((j : ℕ) → j < alphabetSize → getD l j 0 ≡ count (firstLetter + j) u) → l ≡ vector u
   counts-are-vector l e h =
       ext-getD 0 l (vector u) (e ∙ sym length-vector) (λ j m. let b : j < alphabetSize = rw e at m in h j b ∙ sym (vector-at j b))
-
-module _ (u v : List ℕ) where
-  -- vectors that agree at every place are equal
-  pub places-equal : ((j : ℕ) → j < alphabetSize → getD (vector u) j 0 ≡ getD (vector v) j 0) → vector u ≡ vector v
-  places-equal h = counts-are-vector v (vector u) (length-vector u) (λ j b. h j b ∙ vector-at v j b)
-
-  -- equal vectors have the same count of the letter of each place
-  pub equal-places : vector u ≡ vector v → (j : ℕ) → j < alphabetSize → count (firstLetter + j) u ≡ count (firstLetter + j) v
-  equal-places e j b = sym (vector-at u j b) ∙ ap (λ (l : List ℕ). getD l j 0) e ∙ vector-at v j b
-
-  -- no count above is no place's entry above
-  pub noneAbove-places : T (noneAbove (vector u) (vector v)) → (j : ℕ) → j < alphabetSize → getD (vector u) j 0 ≤ getD (vector v) j 0
-  noneAbove-places t j b =
-      let h : count (firstLetter + j) u ≤ count (firstLetter + j) v = noneAbove-counts u v t (firstLetter + j) (place-letter j b) in
-      omega (arith, vector-at u j b, vector-at v j b)
-
-  -- no place's entry above is no count above
-  pub places-noneAbove : ((j : ℕ) → j < alphabetSize → getD (vector u) j 0 ≤ getD (vector v) j 0) → T (noneAbove (vector u) (vector v))
-  places-noneAbove h =
-      counts-noneAbove u v
-      (places-letters (λ (c : ℕ). count c u ≤ count c v) (λ j b. let l : getD (vector u) j 0 ≤ getD (vector v) j 0 = h j b in omega (arith, vector-at u j b, vector-at v j b)))
 
 -- ---- one letter more
 

@@ -79,13 +79,13 @@ pub fn exceeds(u: [u8; WIDTH], v: [u8; WIDTH]) -> bool
 }
 
 // Whether the two rows differ in some count.
-pub fn rows_differ(u: [u8; WIDTH], v: [u8; WIDTH]) -> bool
-    ensures { λ r. ⌜ r ≡ not (same u v) ⌝ }
+pub fn rows_differ(one: [u8; WIDTH], other: [u8; WIDTH]) -> bool
+    ensures { λ r. ⌜ r ≡ not (same one other) ⌝ }
 {
     let mut found = false;
     let mut j = 0;
     while j < WIDTH {
-        found = found | (u[j] != v[j]);
+        found = found | (one[j] != other[j]);
         j += 1;
     }
     found

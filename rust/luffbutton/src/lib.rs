@@ -7,7 +7,7 @@
 //! slice of letters, [`LONGEST_RECORD`] at most. Every call takes any input; what it cannot do it refuses, with a reason of its own type
 //! ([`Refusal`]). A refused call changes nothing; only a [`Tracker::replay`] whose list is refused has still made its calls. Heads and
 //! periods are types of their own, answers are enums and structs, and a tracker is made and changed by its calls alone. Nothing is
-//! allocated. A call takes up to 32 KB of stack, one on a tracker up to 12 KB (the header's `LUFF_STACK_..`, measured), and a [`Tracker`]
+//! allocated. A call takes up to 40 KB of stack, one on a tracker up to 12 KB (the header's `LUFF_STACK_..`, measured), and a [`Tracker`]
 //! has 14,768 bytes.
 //!
 //! A list is written to the first places of a lent slice of 32-bit words, and [`findings`] reads it ([`runs`] a list of runs):

@@ -42,26 +42,26 @@ module _ (c : tie.Start Inv-loop μ-loop) where
   range : InRange (length w) x
   range = in-range (length w) x (c .pre .1)
 
-  -- a row of the word is one of the table
-  read : (i : ℕ) → i ≤ length w → i ≤ longest
-  read i l = omega (arith, counted .short)
+  -- head and block 1 lie in the word, whose rows are in the table
+  within : (x .head < x .period) × (x .head + x .period ≤ length w) × (length w ≤ longest)
+  within = (range .below, range .fits, counted .short)
 
 add-at : tie.Need-add-at Inv-loop μ-loop
 add-at c = omega (arith, range (c .before) .fits)
 
 row-requires : tie.Need-row-requires Inv-loop μ-loop
-row-requires c κs = read (c .before) _ (range (c .before) .fits)
+row-requires c κs = omega (arith, within (c .before))
 
 row-requires-2 : tie.Need-row-requires-2 Inv-loop μ-loop
-row-requires-2 c κs = let s = c .before .before in read s _ (omega (arith, range s .fits))
+row-requires-2 c κs = omega (arith, within (c .before .before))
 
 difference-requires : tie.Need-difference-requires Inv-loop μ-loop
 difference-requires c κs =
     let s = c .before .before .before in
-    counted-rises (w s) (table s) (counted s) (x s .head) (x s .period) (c .before .row .ensures) (c .row2 .ensures) (range s .fits)
+    counted-rises (w s) (table s) (counted s) _ _ (c .before .row .ensures) (c .row2 .ensures) (omega arith) (omega (arith, within s))
 
 row-requires-3 : tie.Need-row-requires-3 Inv-loop μ-loop
-row-requires-3 c κs = let s = c .before .before .before .before in read s _ (omega (arith, range s .fits))
+row-requires-3 c κs = omega (arith, within (c .before .before .before .before))
 
 exceeds-requires : tie.Need-exceeds-requires Inv-loop μ-loop
 exceeds-requires c κs = search needs
@@ -107,19 +107,19 @@ module _ (c : tie.In-loop Inv-loop μ-loop) where
   abbrev passed : Passed (w t) (x t) at
   passed = c .before .loop .inv
 
-  whole : at + x t .period ≤ length (w t)
-  whole = omega (arith, passed .within, c .loop-test .taken)
+  whole : (at + x t .period ≤ length (w t)) × (length (w t) ≤ longest)
+  whole = (omega (arith, passed .within, c .loop-test .taken), counted t .short)
 
 row-requires-4 : tie.Need-row-requires-4 Inv-loop μ-loop
-row-requires-4 c κs = read (t c) _ (whole c)
+row-requires-4 c κs = omega (arith, whole c)
 
 row-requires-5 : tie.Need-row-requires-5 Inv-loop μ-loop
-row-requires-5 c κs = let i = c .before in read (t i) _ (passed i .within)
+row-requires-5 c κs = omega (arith, whole (c .before))
 
 difference-requires-2 : tie.Need-difference-requires-2 Inv-loop μ-loop
 difference-requires-2 c κs =
     let i = c .before .before in
-    counted-rises (w (t i)) (table (t i)) (counted (t i)) (at i) (x (t i) .period) (c .before .row4 .ensures) (c .row5 .ensures) (whole i)
+    counted-rises (w (t i)) (table (t i)) (counted (t i)) _ _ (c .before .row4 .ensures) (c .row5 .ensures) (omega arith) (omega (arith, whole i))
 
 rows-differ-requires : tie.Need-rows-differ-requires Inv-loop μ-loop
 rows-differ-requires c κs = search needs
@@ -138,7 +138,7 @@ module _ (c : tie.After-rows-differ Inv-loop μ-loop) where
   of-next : c .before .difference2 .result ≡ padded (vector next)
   of-next =
       let r = c .before .before in
-      counted-part (w (t i)) (table (t i)) (counted (t i)) (at i) (x (t i) .period) (r .before .row4 .ensures) (r .row5 .ensures) (whole i) (c .before .difference2 .ensures)
+      counted-part (w (t i)) (table (t i)) (counted (t i)) (at i) (x (t i) .period) (r .before .row4 .ensures) (r .row5 .ensures) (whole i .0) (c .before .difference2 .ensures)
       ∙ ap (λ (l : List ℕ). padded (vector l)) (sym (next-block (w (t i)) (x (t i)) (range (t i)) (at i) (passed i)))
 
   next-test : c .rows-differ .result ≡ not like
@@ -175,19 +175,19 @@ module _ (c : tie.After-loop Inv-loop μ-loop) where
   abbrev done : Passed (w u) (x u) end
   done = c .before .loop .inv
 
-  rest : length (w u) ≡ end + (length (w u) - end)
-  rest = omega (arith, done .within)
+  rest : (length (w u) ≡ end + (length (w u) - end)) × (length (w u) ≤ longest)
+  rest = (omega (arith, done .within), counted u .short)
 
 row-requires-6 : tie.Need-row-requires-6 Inv-loop μ-loop
-row-requires-6 c κs = read (u c) _ (omega arith)
+row-requires-6 c κs = omega (arith, rest c)
 
 row-requires-7 : tie.Need-row-requires-7 Inv-loop μ-loop
-row-requires-7 c κs = read (u (c .before)) _ (done (c .before) .within)
+row-requires-7 c κs = omega (arith, rest (c .before))
 
 difference-requires-3 : tie.Need-difference-requires-3 Inv-loop μ-loop
 difference-requires-3 c κs =
     let l = c .before .before in
-    counted-rises (w (u l)) (table (u l)) (counted (u l)) (end l) (length (w (u l)) - end l) (rw (rest l) at (c .before .row6 .ensures)) (c .row7 .ensures) (omega (arith, rest l))
+    counted-rises (w (u l)) (table (u l)) (counted (u l)) _ _ (c .before .row6 .ensures) (c .row7 .ensures) (omega (arith, rest l)) (omega (arith, rest l))
 
 exceeds-requires-2 : tie.Need-exceeds-requires-2 Inv-loop μ-loop
 exceeds-requires-2 c κs = search needs
@@ -201,7 +201,7 @@ returns-3 c =
     let left : length (w (u l)) - end l < x (u l) .period = l .loop-test .left in
     let blocks : wholeBlocks (length (w (u l))) (x (u l)) ≡ p .blocks = all-passed (w (u l)) (x (u l)) (range (u l)) (end l) p left in
     let tail : c .before .difference3 .result ≡ padded (vector (tailOf (w (u l)) (x (u l)))) =
-    counted-part (w (u l)) (table (u l)) (counted (u l)) (end l) (length (w (u l)) - end l) (rw (rest l) at (r .before .row6 .ensures)) (r .row7 .ensures) (omega (arith, rest l))
+    counted-part (w (u l)) (table (u l)) (counted (u l)) (end l) (length (w (u l)) - end l) (rw (rest l .0) at (r .before .row6 .ensures)) (r .row7 .ensures) (omega (arith, rest l))
     (c .before .difference3 .ensures)
     ∙ ap (λ (v : List ℕ). padded (vector v)) (sym (tail-left (w (u l)) (x (u l)) (range (u l)) (end l) p left)) in
     ap not (c .exceeds2 .ensures) ∙ Bool·not-not _ ∙ noneAbove-rows (tailOf (w (u l)) (x (u l))) (block (w (u l)) (x (u l)) 1) tail (first b)

@@ -58,8 +58,7 @@ row-requires-2 c κs = omega (arith, counted (s (c .before)) .short, s (c .befor
 difference-requires : tie.Need-difference-requires
 difference-requires c κs =
     let d = c .before .before in
-    counted-rises (w (s d)) (table (s d)) (counted (s d)) (at (s d) - size (s d)) (size (s d)) (rw (back d) at (c .before .row .ensures)) (c .row2 .ensures)
-    (omega (arith, back d, s d .pre .1 .0))
+    counted-rises (w (s d)) (table (s d)) (counted (s d)) _ _ (c .before .row .ensures) (c .row2 .ensures) (omega arith) (s d .pre .1 .0)
 
 add-row : tie.Need-add-row
 add-row c = omega (arith, behind-there c)
@@ -73,7 +72,7 @@ row-requires-4 c κs = omega (arith, counted (t (c .before)) .short, t (c .befor
 difference-requires-2 : tie.Need-difference-requires-2
 difference-requires-2 c κs =
     let d = c .before .before in
-    counted-rises (w (t d)) (table (t d)) (counted (t d)) (at (t d)) (size (t d)) (c .before .row3 .ensures) (c .row4 .ensures) (behind-there d)
+    counted-rises (w (t d)) (table (t d)) (counted (t d)) _ _ (c .before .row3 .ensures) (c .row4 .ensures) (omega arith) (behind-there d)
 
 returns : tie.Need-returns
 returns c =

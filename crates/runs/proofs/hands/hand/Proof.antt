@@ -41,8 +41,7 @@ row-requires-2 c κs = search needs
 difference-requires : tie.Need-difference-requires Inv-loop μ-loop
 difference-requires c κs =
     let start = c .before .before .before in
-    counted-rises (start .args .word .now) (start .args .table .now) (start .pre .0) (start .args .start - 1) (start .args .period) (c .before .row .ensures) (c .row2 .ensures)
-    (omega (arith, start .pre .1 .0))
+    counted-rises (start .args .word .now) (start .args .table .now) (start .pre .0) _ _ (c .before .row .ensures) (c .row2 .ensures) (omega arith) (omega (arith, start .pre .1 .0))
 
 letters-beside-requires : tie.Need-letters-beside-requires Inv-loop μ-loop
 letters-beside-requires c κs = search needs

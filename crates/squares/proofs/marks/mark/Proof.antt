@@ -45,7 +45,7 @@ row-requires-2 c κs = search needs
 difference-requires : tie.Need-difference-requires
 difference-requires c κs =
     let s = c .before .before .before in
-    counted-rises (word s) (table s) (counted s) (from s) (half s) (c .before .row .ensures) (c .row2 .ensures) (omega arith)
+    counted-rises (word s) (table s) (counted s) _ _ (c .before .row .ensures) (c .row2 .ensures) (omega arith) (omega arith)
 
 add-row : tie.Need-add-row
 add-row c = search needs
@@ -59,7 +59,7 @@ row-requires-4 c κs = search needs
 difference-requires-2 : tie.Need-difference-requires-2
 difference-requires-2 c κs =
     let s = c .before .before .before .before .before .before in
-    counted-rises (word s) (table s) (counted s) (from s + half s) (half s) (c .before .row3 .ensures) (c .row4 .ensures) (omega arith)
+    counted-rises (word s) (table s) (counted s) _ _ (c .before .row3 .ensures) (c .row4 .ensures) (omega arith) (omega arith)
 
 rows-differ-requires : tie.Need-rows-differ-requires
 rows-differ-requires c κs = search needs
