@@ -252,7 +252,7 @@ abbaab = a ∷ b ∷ b ∷ a ∷ a ∷ b ∷ []
 abbrev aboveRecords : List ℕ
 aboveRecords = replicate 65537 a
 
--- the letters that C-16's rows name, and its word of all letters; they are given by their bytes, so that no row follows the alphabet's size
+-- the letters that C-16's rows name, and a word of all letters; given by numbers, so that none of these rows follows the alphabet's size
 abbrev q : ℕ
 q = 113
 
@@ -366,6 +366,7 @@ requested =
     ∷ periodsAre aqar (pair 1 3 ∷ pair 0 4 ∷ [])
     ∷ squaresAre aqar []
     ∷ runsAre aqar []
+    ∷ runsAre (z ∷ q ∷ r ∷ q ∷ r ∷ []) (run 2 2 5 0 0 ∷ [])
     ∷ windowsAre (q ∷ a ∷ []) aqar (1 ∷ 2 ∷ [])
     ∷ judgedNo aqar (pair 0 2) 2 q
     ∷ judgedNo ayaz (pair 0 2) 2 y

@@ -6,7 +6,8 @@ use lib.ListN.{take, drop}
 use lib.Dec.{eqb, leb, ltb}
 use Rattle.abelian.specs.Lists.{pick, one, upFrom, sum}
 
--- How many letters there are: the one place of the definitions that names the number.
+-- How many letters there are. C-16: "Letters become the bytes 97 to 122, a to z, and every vector has 26 counts." Beside the rows of `Marked`, which have
+-- it as a result, this is the one place of the definitions that names the number.
 unfoldable pub alphabetSize : ℕ
 alphabetSize = 26
 

@@ -13,9 +13,9 @@ ghost use Rattle.listers.specs.Lowest.{positions, noPositions, greatestG
 // The entry of a head with which no pair is tried: it is above every period.
 const UNTRIED: u8 = 255;
 
-// The positions of each letter's occurrences, in a table of zeros that the caller lends: entry k of a letter's row is the position of its
-// occurrence number k + 1, or 0 where the letter has no more than k. Each letter of the word is read once, since the row of the letters
-// before it says which occurrence it is.
+// Enters the positions of each letter's occurrences into a table of zeros that the caller lends: entry k of a letter's row is the position of
+// its occurrence number k + 1, or 0 where the letter has no more than k. Each letter of the word is read once, since the counts of the
+// letters before it say which occurrence it is.
 fn find_positions(word: &[u8], counts: &[[u8; WIDTH]; ROWS], found: &mut [[u8; ROWS]; LETTERS])
     requires { ⌜ Counted (now word) (now counts) ⌝ }
     requires { ⌜ now found ≡ noPositions ⌝ }
@@ -77,10 +77,9 @@ fn lowest_period(head: Head, reach: usize, gap: u8) -> u8
 }
 
 // The lowest period to try with each head h, from 0 to the longest word's length: L(h), or 255 where the head is too long for a pair in
-// range or is ruled out. A pair in range is tried exactly where its period is not below its head's entry. With one letter more, of which
-// it then has c, a head asks for one position more, that of the letter's occurrence number 2c, which lies behind those that the shorter
-// heads ask for of this letter. So the reach is the greatest position asked for so far; and where the letter has no such occurrence, the
-// head is ruled out, and so is every longer one.
+// range or is ruled out. A pair in range is tried exactly where its period is not below its head's entry. A head that is one letter longer
+// has one more of that letter, c in all. Its reach is the larger of the shorter head's reach and the position of that letter's occurrence
+// number 2c; where there is no such occurrence, this head and every longer one are ruled out.
 pub(crate) fn lowest_periods(word: &[u8], counts: &[[u8; WIDTH]; ROWS]) -> [u8; ROWS]
     requires { ⌜ Counted (now word) (now counts) ⌝ }
     ensures { λ r. ⌜ r ≡ lowestPeriods (now (word .entry)) ⌝ }

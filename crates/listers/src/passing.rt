@@ -13,13 +13,14 @@ ghost use Rattle.abelian.specs.Trackers.{boardSize};
 ghost use Rattle.listers.specs.Passing.{passedBelow, rowPassed, allPassed};
 
 // The entry of a pair in range: 1 where the period is below the lowest one for the head, and else as it was.
-fn entry_passed(period: u8, lowest: u8, entry: u8) -> u8
+fn passed_below(period: u8, lowest: u8, entry: u8) -> u8
     ensures { λ r. ⌜ r ≡ passedBelow period lowest entry ⌝ }
 {
     if period < lowest { 1 } else { entry }
 }
 
-// Passes over pairs of one period. Every entry of the row is stored, so that the loop becomes vector instructions.
+// Passes over pairs of one period. The entry of each pair in range is stored, also one that stays as it was, so that the loop becomes vector
+// instructions.
 fn pass_row(n: usize, period: Period, lowest: &[u8; ROWS], board: &mut [u8; BOARD])
     requires { ⌜ n ≤ longest ⌝ }
     requires { ⌜ length (now board) ≡ boardSize ⌝ }
@@ -32,7 +33,7 @@ fn pass_row(n: usize, period: Period, lowest: &[u8; ROWS], board: &mut [u8; BOAR
     let mut h = 0;
     while h < heads {
         let at = start + h;
-        board[at] = entry_passed(p, lowest[h], board[at]);
+        board[at] = passed_below(p, lowest[h], board[at]);
         h += 1;
     }
 }

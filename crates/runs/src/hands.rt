@@ -72,8 +72,8 @@ pub(crate) fn hand(
     requires { ⌜ at ≤ length (now word) ⌝ }
     ensures { λ r. ⌜ r ≡ handOf (now (word .entry)) period start before at ⌝ }
 {
-    let first = start - 1;
-    let block = difference(row(table, first + period), row(table, first));
+    let from = start - 1;
+    let block = difference(row(table, from + period), row(table, from));
     let letters = letters_beside(word, before, at);
     let mut hand = 0;
     let mut past = if letters < period {

@@ -7,7 +7,7 @@ use lib.Dec.{T}
 use Rattle.abelian.specs.Lists.{upFrom}
 use Rattle.abelian.specs.Words.{alphabetSize, longest, ofLetters, vector}
 
--- The places of a row: one for each letter, and behind them as many more as fill whole vectors of a machine.
+-- The places of a row: one for each letter, and as many more as make it two registers of 16 bytes, so that a loop over a row leaves no rest.
 unfoldable pub width : ℕ
 width = 32
 
@@ -15,7 +15,7 @@ width = 32
 unfoldable pub padded : List ℕ → List ℕ
 padded v = v ++ replicate (width - alphabetSize) 0
 
--- Row i, from 0 to 240, is the count vector of the word's first i letters; behind the word's end that of the whole word.
+-- Row i, from 0 to 240, has the count vector of the word's first i letters, with zeros behind it; behind the word's end that of the whole word.
 unfoldable pub prefixCounts : List ℕ → List (List ℕ)
 prefixCounts w = map (λ (i : ℕ). padded (vector (take i w))) (upFrom 0 (suc longest))
 

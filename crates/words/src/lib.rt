@@ -21,7 +21,8 @@ ghost use Rattle.words.specs.Prefixes.{prefixCounts};
 // The rows of the table of prefix counts: one for each length of a prefix, 0 to the longest word.
 pub const ROWS: usize = LONGEST + 1;
 
-// The places of a row: a count for each letter, and behind the counts zeros up to a number of places that fills whole vectors of a machine.
+// The places of a row: a count for each letter, and zeros behind them that make it two registers of 16 bytes, so that a loop over a row leaves
+// no rest.
 pub const WIDTH: usize = 32;
 
 // Whether the byte is a letter.

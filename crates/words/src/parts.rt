@@ -1,6 +1,6 @@
-// Count vectors of parts of a word, and the two tests that the papers make of them: of vectors that were counted, and of rows of the table of
-// prefix counts. The zeros behind a row's counts change neither a difference nor a test. Every place is looked at and no loop is left inside a
-// vector, so that each becomes a few vector instructions. For the crates above.
+// Count vectors of parts of a word: their difference, and the two tests that the papers make of them. They are taken from rows of the table of prefix
+// counts, where the zeros behind the counts change neither the difference nor a test; and one test is there for vectors without zeros too. Every
+// place is looked at and no loop ends before the last one, so that each becomes a few vector instructions. For the crates above.
 use crate::ROWS;
 use crate::WIDTH;
 use abelian::LETTERS;
@@ -36,8 +36,8 @@ pub fn row(table: &[[u8; WIDTH]; ROWS], at: usize) -> [u8; WIDTH]
     table[at]
 }
 
-// The row with one more at a place. It is not stored to at that place alone, so that it need not lie in memory.
-pub fn count_more(counts: [u8; WIDTH], place: u8) -> [u8; WIDTH]
+// The row with one more at a place. Every place is looked at, so that the row need not lie in memory.
+pub(crate) fn count_more(counts: [u8; WIDTH], place: u8) -> [u8; WIDTH]
     requires { ⌜ place < width ⌝ }
     requires { ⌜ ((j : ℕ) → j < width → getD counts j 0 < longest) ⌝ }
     ensures { λ r. ⌜ r ≡ set counts place (getD counts place 0 + 1) ⌝ }
@@ -51,7 +51,7 @@ pub fn count_more(counts: [u8; WIDTH], place: u8) -> [u8; WIDTH]
     more
 }
 
-// The first row's counts, each less the second's, of which none is above: of two prefixes' rows that of the part between them.
+// The first row's counts, each less the second's, of which none is above. For the rows of two prefixes this is the row of the part between them.
 pub fn difference(longer: [u8; WIDTH], shorter: [u8; WIDTH]) -> [u8; WIDTH]
     requires { ⌜ T (noneAbove shorter longer) ⌝ }
     ensures { λ r. ⌜ r ≡ minus longer shorter ⌝ }

@@ -91,7 +91,7 @@ module _ (c : tie.After-breaks-rule Inv-loop μ-loop Inv-blocks2 μ-blocks2) whe
 
   place : j < alphabetSize
   unfolding alphabetSize
-  place = c .before .loop-test .taken
+  place = omega (arith, c .before .loop-test .taken)
 
   test-is : c .breaks-rule .result ≡ breaks (w (s joined)) (x (s joined)) (k joined) (firstLetter + j)
   test-is =

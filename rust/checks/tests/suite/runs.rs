@@ -53,7 +53,7 @@ fn vectors_on_the_reference() {
 }
 
 /// The runs of words over letters that request C-16 adds, by hand. Blocks that differ in q and r alone make none; of rqqr there are those of
-/// abba, and of zyzyz two, of which one has a hand on its left and the other on its right.
+/// abba, of zyzyz two, of which one has a hand on its left and the other on its right, and of zqrqr one, which z leaves without a hand.
 #[test]
 fn words_over_added_letters() {
     let run = |(d, i, j, left, right)| Run {
@@ -68,6 +68,7 @@ fn words_over_added_letters() {
         (b"aqaraq", vec![]),
         (b"rqqr", vec![(1, 2, 3, 0, 0), (2, 1, 4, 0, 0)]),
         (b"zyzyz", vec![(2, 1, 4, 0, 1), (2, 2, 5, 1, 0)]),
+        (b"zqrqr", vec![(2, 2, 5, 0, 0)]),
     ];
     let records = table.map(|(word, runs)| RunsRecord {
         word: word.to_vec(),

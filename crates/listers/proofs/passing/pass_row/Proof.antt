@@ -100,16 +100,16 @@ add-at : tie.Need-add-at Inv-loop μ-loop
 unfolding boardSize
 add-at c = omega (arith, at-place c)
 
-element-copy-out-entry-passed : tie.Need-element-copy-out-entry-passed Inv-loop μ-loop
+element-copy-out-passed-below : tie.Need-element-copy-out-passed-below Inv-loop μ-loop
 unfolding longest
-element-copy-out-entry-passed c = omega (arith, inside c .fits)
+element-copy-out-passed-below c = omega (arith, inside c .fits)
 
-element-copy-out-entry-passed-2 : tie.Need-element-copy-out-entry-passed-2 Inv-loop μ-loop
+element-copy-out-passed-below-2 : tie.Need-element-copy-out-passed-below-2 Inv-loop μ-loop
 unfolding boardSize
-element-copy-out-entry-passed-2 c = omega (arith, at-place (c .before))
+element-copy-out-passed-below-2 c = omega (arith, at-place (c .before))
 
-entry-passed-requires : tie.Need-entry-passed-requires Inv-loop μ-loop
-entry-passed-requires c κs = search needs
+passed-below-requires : tie.Need-passed-below-requires Inv-loop μ-loop
+passed-below-requires c κs = search needs
 
 element-write-board : tie.Need-element-write-board Inv-loop μ-loop
 unfolding boardSize
@@ -130,7 +130,7 @@ loop-again c =
     let new = passedBelow (p (r i)) (getD (lowest (r i)) (h i) 0) in (
       omega (arith, i .loop-test .taken),
       rw add-one
-          (ap (set (i .before .loop .board) _) (c .entry-passed .ensures)
+          (ap (set (i .before .loop .board) _) (c .passed-below .ensures)
           ∙ ap₂ (λ l k. set l k (new (getD l k 0))) (i .before .loop .inv .1) (place-at (r i) (h i))
           ∙ ap (set (boardOf (below f (p (r i)) (h i) (board (r i)))) (placeOf x))
           (ap new (entry-untouched f (p (r i)) (board (r i)) (long (r i)) (h i) t)
@@ -157,9 +157,9 @@ pass-row-spec =
     row-heads-requires
     loop-holds
     add-at
-    element-copy-out-entry-passed
-    element-copy-out-entry-passed-2
-    entry-passed-requires
+    element-copy-out-passed-below
+    element-copy-out-passed-below-2
+    passed-below-requires
     element-write-board
     add-h
     loop-less

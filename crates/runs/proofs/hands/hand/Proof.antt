@@ -18,16 +18,16 @@ use Rattle.runs.proofs.hands.hand.Statement.{statement}
 use Rattle.runs.proofs.hands.hand.Tie as tie
 
 abbrev Inv-loop : tie.InvT-loop
-Inv-loop word table period start before at first block letters hand₀ past₀ hand past = Halving word period start before at hand past
+Inv-loop word table period start before at from block letters hand₀ past₀ hand past = Halving word period start before at hand past
 
 abbrev μ-loop : tie.MeasureT-loop
-μ-loop word table period start before at first block letters hand₀ past₀ hand past = past - hand
+μ-loop word table period start before at from block letters hand₀ past₀ hand past = past - hand
 
 placed : (c : tie.Start Inv-loop μ-loop) → Placed (c .args .word .now) (c .args .period) (c .args .start) (c .args .at)
 placed c = record { letters = c .pre .0 .all; start = c .pre .1 .0 .1; whole = c .pre .1 .0 .2; inside = c .pre .1 .1 }
 
-sub-first : tie.Need-sub-first Inv-loop μ-loop
-sub-first c = search needs
+sub-from : tie.Need-sub-from Inv-loop μ-loop
+sub-from c = search needs
 
 add-row : tie.Need-add-row Inv-loop μ-loop
 add-row c = search needs
@@ -145,7 +145,7 @@ hand-spec =
     (tie.spec
     Inv-loop
     μ-loop
-    sub-first
+    sub-from
     add-row
     row-requires
     row-requires-2
