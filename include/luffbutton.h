@@ -80,16 +80,16 @@
  * How the time grows was measured from 120 to 240 letters on words of seven kinds, that of luff_list_runs also on abba repeated, and that of
  * luff_list_windows on records of 1,024 to 65,536 letters, as n to the power (docs/PERFORMANCE.md, which has the times too):
  *
- *     luff_list_plain, luff_list_skipping           1.8 to 2.1
- *     luff_list_squares, luff_report                1.8 to 1.9
+ *     luff_list_plain, luff_list_skipping           1.8 to 2.2
+ *     luff_list_squares, luff_report                1.8 to 2.0
  *     luff_list_runs                                1.9 to 2.7
- *     luff_tracker_add, n being the letters held    1.8 to 2.0
- *     luff_list_full                                1.0 to 1.3
- *     luff_find_cover                               1.0 to 1.1
+ *     luff_tracker_add, n being the letters held    1.9 to 2.3
+ *     luff_list_full                                0.9 to 1.2
+ *     luff_find_cover                               1.0
  *     luff_list_windows, n places or more           1.0
- *     luff_list_full_scaled, luff_judge             0.5 to 1.0
+ *     luff_list_full_scaled, luff_judge             0.4 to 1.0
  *
- * A count took 0.2 to 1.0 times as long as its list on these words and records. A luff_tracker_list and a luff_tracker_count go through
+ * A count took 0.1 to 1.0 times as long as its list on these words and records. A luff_tracker_list and a luff_tracker_count go through
  * the entries of the pairs in range for the letters held, about n * n / 4 of them. A luff_tracker_take_back goes through the whole board,
  * and a luff_tracker_fresh or luff_tracker_clear writes the whole tracker, whatever n is. The time of a luff_tracker_replay grows with the
  * number of its calls, each of which takes as long as an add at 240 letters at most, and one list comes behind them; that number has no
