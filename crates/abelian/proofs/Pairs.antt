@@ -41,6 +41,15 @@ range-in n x r =
     both (p && h) f (both p h (le→leb 1 (x .period) (r .positive)) (lt→ltb (x .head) (x .period) (r .below)))
     (le→leb (x .head + x .period) n (r .fits))
 
+-- what is in range for n is in range for what is longer
+pub in-range-longer : {n m : ℕ} {x : Pair} → InRange n x → n ≤ m → InRange m x
+in-range-longer r l = record { positive = r .positive; below = r .below; fits = omega (arith, r .fits) }
+
+-- the heads of a row are in range
+pub heads-in-range : {n p h : ℕ} → 1 ≤ p → p ≤ n → h < heads n p → InRange n (pair h p)
+unfolding heads
+heads-in-range l u b = record { positive = l; below = omega arith; fits = omega arith }
+
 -- ---- membership
 
 -- a row has pairs in range with its period

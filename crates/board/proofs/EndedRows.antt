@@ -16,7 +16,7 @@ use Rattle.abelian.specs.EndedLengths.{boardOf}
 use Rattle.abelian.specs.Trackers.{boardSize, entries, entryAdded}
 use Rattle.abelian.proofs.Tests.{is-false, decided}
 use Rattle.abelian.proofs.Lists.{keep-append, keep-agree, keep-shorter, upFrom-last}
-use Rattle.abelian.proofs.Pairs.{InRange, in-range, range-in, mem-row}
+use Rattle.abelian.proofs.Pairs.{InRange, in-range, range-in, in-range-longer, mem-row}
 use Rattle.periods.proofs.PairCount.{length-row}
 use Rattle.board.specs.Places.{placeOf, entryAt, isOpen}
 use Rattle.board.specs.Ending.{entryInRow, rowEnded, rowOpen}
@@ -184,7 +184,7 @@ module _ (f : Pair → ℕ → ℕ) (board : List ℕ) (long : length board ≡ 
       keep-agree (isOpen (boardOf (upTo f m board))) (isOpen board) (row n (suc m))
       (λ x i.
       let r : InRange n x × (x .period ≡ suc m) = mem-row n (suc m) (omega arith) i in
-      let t : T (inRange longest x) = range-in longest x (record { positive = r .0 .positive; below = r .0 .below; fits = omega (arith, r .0 .fits) }) in
+      let t : T (inRange longest x) = range-in longest x (in-range-longer (r .0) u) in
       let later : leb (x .period) m ≡ false = lt-leb (x .period) m (omega (arith, r .1)) in
       let e : upTo f m board x ≡ entryAt board x = rw later in
       ap (λ (k : ℕ). eqb k 0) (boardOf-at (upTo f m board) x t ∙ e))

@@ -17,7 +17,7 @@ use Rattle.abelian.specs.EndedLengths.{boardOf}
 use Rattle.abelian.specs.Trackers.{boardSize, entries, pairsWhere}
 use Rattle.abelian.proofs.Tests.{is-true, both, left, right, decided}
 use Rattle.abelian.proofs.Lists.{all-mem, upFrom-mem, mem-keep, keep-mem, upFrom-append, ordered-keep}
-use Rattle.abelian.proofs.Pairs.{InRange, in-range, range-in, pairs-in-range, in-range-pairs, pairs-rising, rising-equal}
+use Rattle.abelian.proofs.Pairs.{InRange, in-range, range-in, in-range-longer, pairs-in-range, in-range-pairs, pairs-rising, rising-equal}
 use Rattle.periods.proofs.PairCount.{length-row, pair-count}
 use Rattle.board.specs.Places.{rowStart, placeOf, entryAt}
 
@@ -166,7 +166,7 @@ keep-in-range n f l =
     (λ z m.
     let i : T (inRange n z) = pairs-in-range n z (mem-keep f (pairs n) m .0) in
     let r : InRange n z = in-range n z i in
-    let w : T (inRange longest z) = range-in longest z (record { positive = r .positive; below = r .below; fits = omega (arith, r .fits) }) in
+    let w : T (inRange longest z) = range-in longest z (in-range-longer r l) in
     keep-mem t (pairs longest) (in-range-pairs longest z w) (both (inRange n z) (f z) i (mem-keep f (pairs n) m .1)))
 
 -- entries made anew, on any board

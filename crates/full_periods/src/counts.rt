@@ -1,11 +1,26 @@
-// Multiples and divisors of count vectors.
+// Count vectors: whether two differ, one count more, multiples and divisors.
 use abelian::LETTERS;
 ghost use mathlib.Core.Path.{_≡_};
+ghost use mathlib.Core.Bool.{not};
 ghost use mathlib.Core.List.{[], _∷_};
 ghost use Prim.Native.Nat.{ℕ, _+_, _≤_, _<_};
 ghost use lib.ListN.{getD, set};
+ghost use Rattle.abelian.specs.Lists.{same};
 ghost use Rattle.abelian.specs.Words.{alphabetSize, longest};
 ghost use Rattle.full_periods.specs.Divisors.{GreatestDivisor, divided, isMultiple};
+
+// Whether the two vectors differ in some count. Every letter is looked at, so that the loop has no exit inside a vector.
+pub(crate) fn differs(u: [u8; LETTERS], v: [u8; LETTERS]) -> bool
+    ensures { λ r. ⌜ r ≡ not (same u v) ⌝ }
+{
+    let mut found = false;
+    let mut j = 0;
+    while j < LETTERS {
+        found = found | (u[j] != v[j]);
+        j += 1;
+    }
+    found
+}
 
 // A count as a number that may be taken as often as a word has letters.
 fn wide(count: u8) -> u16
@@ -14,7 +29,7 @@ fn wide(count: u8) -> u16
     count as u16
 }
 
-// Whether each count is so many times that of the unit. Every letter is looked at, so that the loop has no exit inside a vector.
+// Whether each count is so many times that of the unit. Every letter is looked at here too.
 pub(crate) fn is_multiple(counts: [u8; LETTERS], times: u16, unit: [u8; LETTERS]) -> bool
     requires { ⌜ times ≤ longest ⌝ }
     ensures { λ r. ⌜ r ≡ isMultiple counts times unit ⌝ }

@@ -24,7 +24,7 @@ fn blocks_alike(word: &[u8], period: Period) -> bool
     let mut from = p;
     while from < word.len() {
         let to = from + p;
-        if words::parts::differs(words::count_letters(&word[from..to]), first) {
+        if crate::counts::differs(words::count_letters(&word[from..to]), first) {
             return false;
         }
         from = to;

@@ -6,7 +6,7 @@ use mathlib.Core.List.{List, [], map}
 use Prim.Native.Nat.{ℕ, suc, _+_, _-_, _≤_, _<_}
 use native.Mathlib.Decide.{decLt}
 use native.Mathlib.Omega.{arith}
-use lib.ListN.{length, take, getD, set, length-map, length-set, getD-replicate, length-replicate, replicate, length-take, List·getD-eq-default}
+use lib.ListN.{length, take, getD, set, length-map, length-set, getD-replicate, length-replicate, replicate, length-take}
 use lib.Seq.{ext-getD, getD-set-same, getD-set-other, take-all}
 use lib.Dec.{eqb}
 use mir.Val.{Fits}
@@ -20,6 +20,7 @@ use Rattle.abelian.proofs.Lists.{length-upFrom}
 use Rattle.abelian.proofs.Counts.{count-le-length}
 use Rattle.words.proofs.Vectors.{letter-at, map-upFrom-at}
 use Rattle.words.specs.Prefixes.{Counted}
+use Rattle.words.proofs.Padded.{zeros-at}
 use Rattle.words.proofs.Prefixes.{prefixRow-at, counted-row}
 use Rattle.listers.specs.Lowest.{positions, noPositions}
 use Rattle.listers.proofs.Select.{count-here, count-elsewhere, occurrence-is, occurrence-none, occurrence-length}
@@ -51,11 +52,11 @@ module _ (w : List ℕ) where
 -- ---- the entries that are read
 
 -- an entry of the table of prefix counts: how often the letter of the place stands in the prefix
-pub counted-entry : (w : List ℕ) (table : List (List ℕ)) → Counted w table → (i : ℕ) → i ≤ length w → (j : ℕ) → j < alphabetSize → getD (getD table i []) j 0 ≡ count (firstLetter + j) (take i w)
-counted-entry w table t i l j place = ap (λ (row : List ℕ). getD row j 0) (counted-row w table t i l) ∙ prefixRow-at w i j place
+pub counted-entry : {w : List ℕ} {table : List (List ℕ)} → Counted w table → (i : ℕ) → i ≤ length w → (j : ℕ) → j < alphabetSize → getD (getD table i []) j 0 ≡ count (firstLetter + j) (take i w)
+counted-entry {w} t i l j place = ap (λ (row : List ℕ). getD row j 0) (counted-row t i l) ∙ prefixRow-at w i j place
 
 -- the letter at a position
-module _ (w : List ℕ) (table : List (List ℕ)) (t : Counted w table) (i : ℕ) (l : i < length w) where
+module _ {w : List ℕ} {table : List (List ℕ)} (t : Counted w table) (i : ℕ) (l : i < length w) where
   abbrev letter : ℕ
   letter = getD w i 0
 
@@ -65,13 +66,13 @@ module _ (w : List ℕ) (table : List (List ℕ)) (t : Counted w table) (i : ℕ
   -- its entry in a row of the table of prefix counts
   module _ (k : ℕ) (b : k ≤ length w) where
     pub letter-counted : getD (getD table k []) (letter - firstLetter) 0 ≡ count letter (take k w)
-    letter-counted = counted-entry w table t k b (letter - firstLetter) (letter-place .0) ∙ ap (λ (c : ℕ). count c (take k w)) (letter-place .1)
+    letter-counted = counted-entry t k b (letter - firstLetter) (letter-place .0) ∙ ap (λ (c : ℕ). count c (take k w)) (letter-place .1)
 
     pub letter-small : getD (getD table k []) (letter - firstLetter) 0 ≤ k
     letter-small = omega (arith, letter-counted, count-le-length letter (take k w), length-take k w)
 
   -- and an entry of its row in the table of positions
-  module _ (select : List (List ℕ)) (e : select ≡ positions w) (k : ℕ) (b : k ≤ longest) where
+  module _ {select : List (List ℕ)} (e : select ≡ positions w) (k : ℕ) (b : k ≤ longest) where
     pub letter-position : getD (getD select (letter - firstLetter) []) k 0 ≡ occurrence letter (suc k) w
     letter-position =
         ap (λ (a : List (List ℕ)). getD (getD a (letter - firstLetter) []) k 0) e
@@ -96,13 +97,6 @@ pub record Found (w : List ℕ) (table : List (List ℕ)) (i : ℕ) : Type 0 whe
 abbrev pub emptyRow : List ℕ
 emptyRow = replicate (suc longest) 0
 
-emptyRow-at : (k : ℕ) → getD emptyRow k 0 ≡ 0
-emptyRow-at k = go (decLt k (suc longest))
-  where
-    go : Dec (k < suc longest) → getD emptyRow k 0 ≡ 0
-    go (yes l) = getD-replicate (suc longest) k 0 0 l
-    go (no l) = List·getD-eq-default emptyRow 0 {n = k} (omega (arith, length-replicate {A = ℕ} (suc longest) 0))
-
 -- before the first letter nothing is found
 pub nothing-found : (w : List ℕ) → Found w noPositions 0
 unfolding count
@@ -112,7 +106,7 @@ nothing-found w =
       rows = length-replicate alphabetSize emptyRow;
       sizes = λ j l. ap length (getD-replicate alphabetSize j emptyRow [] l) ∙ length-replicate (suc longest) 0;
       filled = λ j k l m. absurd (omega arith);
-      empty = λ j k l m. ap (λ (r : List ℕ). getD r k 0) (getD-replicate alphabetSize j emptyRow [] l) ∙ emptyRow-at k;
+      empty = λ j k l m. ap (λ (r : List ℕ). getD r k 0) (getD-replicate alphabetSize j emptyRow [] l) ∙ zeros-at (suc longest) k;
     }
 
 -- the letter of place j₀ stands behind the first i, and is written at the number of its occurrences there

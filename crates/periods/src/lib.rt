@@ -4,9 +4,9 @@ use abelian::Period;
 use words::ROWS;
 use words::WIDTH;
 use words::parts::difference;
+use words::parts::differs;
 use words::parts::exceeds;
 use words::parts::row;
-use words::parts::rows_differ;
 ghost use mathlib.Core.Path.{_≡_};
 ghost use lib.Dec.{T};
 ghost use lib.ListN.{length};
@@ -28,7 +28,7 @@ pub fn holds(word: &[u8], counts: &[[u8; WIDTH]; ROWS], head: Head, period: Peri
         return false;
     }
     while p <= word.len() - at {
-        if rows_differ(difference(row(counts, at + p), row(counts, at)), first) {
+        if differs(difference(row(counts, at + p), row(counts, at)), first) {
             return false;
         }
         at += p;

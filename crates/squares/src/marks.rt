@@ -3,8 +3,8 @@
 use words::ROWS;
 use words::WIDTH;
 use words::parts::difference;
+use words::parts::differs;
 use words::parts::row;
-use words::parts::rows_differ;
 ghost use mathlib.Core.Path.{_≡_};
 ghost use Prim.Native.Nat.{_+_, _*_, _≤_};
 ghost use lib.ListN.{length};
@@ -25,7 +25,7 @@ fn mark(word: &[u8], table: &[[u8; WIDTH]; ROWS], half: usize, start: usize) -> 
     let middle = from + half;
     let first = difference(row(table, middle), row(table, from));
     let second = difference(row(table, middle + half), row(table, middle));
-    if rows_differ(first, second) { 0 } else { 1 }
+    if differs(first, second) { 0 } else { 1 }
 }
 
 // Marks the candidates of one half length in the first places of the slice, and returns how many of them are squares.

@@ -1,18 +1,15 @@
--- Laws of count vectors with zeros behind them, as the rows of prefix counts have them: the zeros change neither a difference nor a test.
-use mathlib.Core.Path.{_≡_, refl, sym, ap, _∙_}
+-- Laws of count vectors with zeros behind them, as the rows of prefix counts have them: their places, and their differences.
+use mathlib.Core.Path.{_≡_, refl, ap, _∙_}
 use mathlib.Core.List.{List, [], _∷_, _++_}
 use mathlib.Core.Logic.{⊎-elim}
 use Prim.Native.Nat.{ℕ, zero, suc, _+_, _-_, _≤_, _<_}
 use native.Mathlib.Omega.{arith}
 use lib.ListN.{length, getD, set, replicate, List·getD-append}
 use lib.Seq.{set-append-left, getD-append-add}
-use lib.Dec.{eqb, leb}
-use Rattle.abelian.specs.Lists.{same}
-use Rattle.abelian.specs.Words.{alphabetSize, noneAbove}
+use Rattle.abelian.specs.Words.{alphabetSize}
 use Rattle.abelian.proofs.Lists.{below-or-not}
 use Rattle.words.specs.Differences.{minus}
 use Rattle.words.specs.Prefixes.{width, padded}
-use Rattle.words.proofs.Pairwise.{through-zeros}
 
 -- no entry of a list of zeros is another number
 pub zeros-at : (n k : ℕ) → _≡_ {A = ℕ} (getD (replicate n 0) k 0) 0
@@ -46,7 +43,7 @@ module _ (v : List ℕ) (e : length v ≡ alphabetSize) where
   unfolding padded
   padded-set j x l = set-append-left v zeros j x (omega (arith, e))
 
--- ---- differences and tests
+-- ---- differences
 
 minus-zeros : (k : ℕ) (u v : List ℕ) → length u ≡ length v → minus (u ++ replicate k 0) (v ++ replicate k 0) ≡ minus u v ++ replicate k 0
 unfolding minus
@@ -56,15 +53,6 @@ minus-zeros k [] (b ∷ v) e = absurd (omega arith)
 minus-zeros k (a ∷ u) [] e = absurd (omega arith)
 minus-zeros k (a ∷ u) (b ∷ v) e = ap (λ (z : List ℕ). (a - b) ∷ z) (minus-zeros k u v (omega arith))
 
-module _ (u v : List ℕ) (e : length u ≡ length v) where
-  pub minus-padded : minus (padded u) (padded v) ≡ padded (minus u v)
-  unfolding padded
-  minus-padded = minus-zeros (width - alphabetSize) u v e
-
-  pub same-padded : same (padded u) (padded v) ≡ same u v
-  unfolding padded
-  same-padded = through-zeros eqb same refl (λ a b u v. refl) refl (width - alphabetSize) u v e
-
-  pub noneAbove-padded : noneAbove (padded u) (padded v) ≡ noneAbove u v
-  unfolding padded noneAbove
-  noneAbove-padded = through-zeros leb noneAbove refl (λ a b u v. refl) refl (width - alphabetSize) u v e
+pub minus-padded : (u v : List ℕ) → length u ≡ length v → minus (padded u) (padded v) ≡ padded (minus u v)
+unfolding padded
+minus-padded = minus-zeros (width - alphabetSize)

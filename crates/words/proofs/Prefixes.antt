@@ -1,20 +1,20 @@
 -- Laws of prefix counts: what the rows of `prefixCounts w` hold, and how the counts of a part are read off two of them.
-use mathlib.Core.Path.{_≡_, sym, ap, _∙_}
+use mathlib.Core.Path.{_≡_, refl, sym, ap, _∙_}
 use mathlib.Core.List.{List, []}
 use Prim.Native.Nat.{ℕ, suc, _+_, _-_, _≤_, _<_}
 use native.Mathlib.Nat.{zero-add}
 use native.Mathlib.Omega.{arith}
 use lib.ListN.{length, take, getD, set, length-map}
 use lib.Seq.{ext-getD}
-use lib.Dec.{T}
+use lib.Dec.{T, eqb, leb}
 use Rattle.abelian.specs.Lists.{upFrom, same}
 use Rattle.abelian.specs.Words.{alphabetSize, firstLetter, longest, ofLetters, count, vector, part, noneAbove}
 use Rattle.abelian.proofs.Lists.{length-upFrom}
 use Rattle.abelian.proofs.Counts.{count-part, count-take-rises, counts-noneAbove}
 use Rattle.words.specs.Differences.{minus}
-use Rattle.words.specs.Prefixes.{padded, prefixCounts, Counted}
-use Rattle.words.proofs.Pairwise.{minus-at, length-minus}
-use Rattle.words.proofs.Padded.{padded-at, padded-set, padded-le, minus-padded, noneAbove-padded, same-padded}
+use Rattle.words.specs.Prefixes.{width, padded, prefixCounts, Counted}
+use Rattle.words.proofs.Pairwise.{through-zeros, minus-at, length-minus}
+use Rattle.words.proofs.Padded.{padded-at, padded-set, padded-le, minus-padded}
 use Rattle.words.proofs.Vectors.{map-upFrom-at, vector-at, entry-le, length-vector, counts-are-vector, letter-at, vector-take-more, vector-take-all}
 
 -- vectors have equal lengths
@@ -50,13 +50,15 @@ module _ (w : List ℕ) where
   pub prefixRow-all : (i : ℕ) → length w ≤ i → prefixRow i ≡ prefixRow (i + 1)
   prefixRow-all i l = ap padded (vector-take-all w i l)
 
--- the two tests of rows are those of the vectors
+-- the two tests of rows are those of the vectors, since zeros behind both change neither
 module _ (x y : List ℕ) {u v : List ℕ} (e : u ≡ padded (vector x)) (f : v ≡ padded (vector y)) where
   pub noneAbove-rows : noneAbove u v ≡ noneAbove (vector x) (vector y)
-  noneAbove-rows = rw (e, f) (noneAbove-padded (vector x) (vector y) (equal-lengths x y))
+  unfolding padded noneAbove
+  noneAbove-rows = rw (e, f) (through-zeros leb noneAbove refl (λ a b u v. refl) refl (width - alphabetSize) (vector x) (vector y) (equal-lengths x y))
 
   pub same-rows : same u v ≡ same (vector x) (vector y)
-  same-rows = rw (e, f) (same-padded (vector x) (vector y) (equal-lengths x y))
+  unfolding padded
+  same-rows = rw (e, f) (through-zeros eqb same refl (λ a b u v. refl) refl (width - alphabetSize) (vector x) (vector y) (equal-lengths x y))
 
 -- ---- the table
 
@@ -78,7 +80,7 @@ module _ (w : List ℕ) where
       (λ i m. let b : i ≤ longest = omega arith in h i b ∙ sym (prefix-row i b))
 
 -- what is read from a table that is known to hold an accepted word's prefix counts
-module _ (w : List ℕ) (table : List (List ℕ)) (c : Counted w table) where
+module _ {w : List ℕ} {table : List (List ℕ)} (c : Counted w table) where
   pub counted-row : (i : ℕ) → i ≤ length w → getD table i [] ≡ prefixRow w i
   counted-row i l = rw (c .rows) (prefix-row w i (omega (arith, c .short)))
 

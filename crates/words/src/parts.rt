@@ -1,9 +1,8 @@
-// Count vectors of parts of a word: their difference, and the two tests that the papers make of them. They are taken from rows of the table of prefix
-// counts, where the zeros behind the counts change neither the difference nor a test; and one test is there for vectors without zeros too. Every
-// place is looked at and no loop ends before the last one, so that each becomes a few vector instructions. For the crates above.
+// Count vectors of parts of a word, by rows of the table of prefix counts: their difference, and the two tests that the papers make of them. The
+// zeros behind the counts change neither the difference nor a test. Every place is looked at and no loop ends before the last one, so that each
+// becomes a few vector instructions. For the crates above.
 use crate::ROWS;
 use crate::WIDTH;
-use abelian::LETTERS;
 ghost use mathlib.Core.Path.{_≡_};
 ghost use mathlib.Core.Bool.{not};
 ghost use mathlib.Core.List.{[]};
@@ -14,19 +13,6 @@ ghost use Rattle.abelian.specs.Lists.{same};
 ghost use Rattle.abelian.specs.Words.{longest, noneAbove};
 ghost use Rattle.words.specs.Differences.{minus};
 ghost use Rattle.words.specs.Prefixes.{width};
-
-// Whether the two vectors differ in some count.
-pub fn differs(u: [u8; LETTERS], v: [u8; LETTERS]) -> bool
-    ensures { λ r. ⌜ r ≡ not (same u v) ⌝ }
-{
-    let mut found = false;
-    let mut j = 0;
-    while j < LETTERS {
-        found = found | (u[j] != v[j]);
-        j += 1;
-    }
-    found
-}
 
 // The row of the table for the first `at` letters.
 pub fn row(table: &[[u8; WIDTH]; ROWS], at: usize) -> [u8; WIDTH]
@@ -79,13 +65,13 @@ pub fn exceeds(u: [u8; WIDTH], v: [u8; WIDTH]) -> bool
 }
 
 // Whether the two rows differ in some count.
-pub fn rows_differ(one: [u8; WIDTH], other: [u8; WIDTH]) -> bool
-    ensures { λ r. ⌜ r ≡ not (same one other) ⌝ }
+pub fn differs(u: [u8; WIDTH], v: [u8; WIDTH]) -> bool
+    ensures { λ r. ⌜ r ≡ not (same u v) ⌝ }
 {
     let mut found = false;
     let mut j = 0;
     while j < WIDTH {
-        found = found | (one[j] != other[j]);
+        found = found | (u[j] != v[j]);
         j += 1;
     }
     found

@@ -10,7 +10,7 @@ use borrow.Author.Needs.{needs}
 use borrow.Author.Tests.{not-true, not-false}
 use Rattle.abelian.specs.Lists.{same}
 use Rattle.abelian.specs.Words.{longest, vector, noneAbove}
-use Rattle.abelian.specs.Periods.{Pair, pair, headOf, block, wholeBlocks, tailOf, isPeriod}
+use Rattle.abelian.specs.Periods.{Pair, pair, headOf, block, wholeBlocks, tailOf}
 use Rattle.abelian.proofs.Tests.{passes}
 use Rattle.abelian.proofs.Lists.{same-equal}
 use Rattle.abelian.proofs.Pairs.{InRange, in-range}
@@ -58,7 +58,7 @@ row-requires-2 c κs = omega (arith, within (c .before .before))
 difference-requires : tie.Need-difference-requires Inv-loop μ-loop
 difference-requires c κs =
     let s = c .before .before .before in
-    counted-rises (w s) (table s) (counted s) _ _ (c .before .row .ensures) (c .row2 .ensures) (omega arith) (omega (arith, within s))
+    counted-rises (counted s) _ _ (c .before .row .ensures) (c .row2 .ensures) (omega arith) (omega (arith, within s))
 
 row-requires-3 : tie.Need-row-requires-3 Inv-loop μ-loop
 row-requires-3 c κs = omega (arith, within (c .before .before .before .before))
@@ -74,12 +74,12 @@ module _ (c : tie.After-exceeds Inv-loop μ-loop) where
   first : c .before .before .difference .result ≡ padded (vector (block (w s) (x s) 1))
   first =
       let d = c .before .before in
-      counted-part (w s) (table s) (counted s) (x s .head) (x s .period) (d .before .before .row .ensures) (d .before .row2 .ensures) (range s .fits) (d .difference .ensures)
+      counted-part (counted s) (x s .head) (x s .period) (d .before .before .row .ensures) (d .before .row2 .ensures) (range s .fits) (d .difference .ensures)
       ∙ ap (λ (l : List ℕ). padded (vector l)) (sym (first-block (w s) (x s)))
 
   of-head : c .before .row3 .result ≡ padded (vector (headOf (w s) (x s)))
   unfolding headOf
-  of-head = c .before .row3 .ensures ∙ counted-row (w s) (table s) (counted s) (x s .head) (omega (arith, range s .fits))
+  of-head = c .before .row3 .ensures ∙ counted-row (counted s) (x s .head) (omega (arith, range s .fits))
 
   head-test : c .exceeds .result ≡ not (noneAbove (vector (headOf (w s) (x s))) (vector (block (w s) (x s) 1)))
   head-test = c .exceeds .ensures ∙ ap not (noneAbove-rows (headOf (w s) (x s)) (block (w s) (x s) 1) of-head first)
@@ -119,13 +119,13 @@ row-requires-5 c κs = omega (arith, whole (c .before))
 difference-requires-2 : tie.Need-difference-requires-2 Inv-loop μ-loop
 difference-requires-2 c κs =
     let i = c .before .before in
-    counted-rises (w (t i)) (table (t i)) (counted (t i)) _ _ (c .before .row4 .ensures) (c .row5 .ensures) (omega arith) (omega (arith, whole i))
+    counted-rises (counted (t i)) _ _ (c .before .row4 .ensures) (c .row5 .ensures) (omega arith) (omega (arith, whole i))
 
-rows-differ-requires : tie.Need-rows-differ-requires Inv-loop μ-loop
-rows-differ-requires c κs = search needs
+differs-requires : tie.Need-differs-requires Inv-loop μ-loop
+differs-requires c κs = search needs
 
 -- the next block's test
-module _ (c : tie.After-rows-differ Inv-loop μ-loop) where
+module _ (c : tie.After-differs Inv-loop μ-loop) where
   abbrev i : tie.In-loop Inv-loop μ-loop
   i = c .before .before .before .before
 
@@ -138,12 +138,12 @@ module _ (c : tie.After-rows-differ Inv-loop μ-loop) where
   of-next : c .before .difference2 .result ≡ padded (vector next)
   of-next =
       let r = c .before .before in
-      counted-part (w (t i)) (table (t i)) (counted (t i)) (at i) (x (t i) .period) (r .before .row4 .ensures) (r .row5 .ensures) (whole i .0) (c .before .difference2 .ensures)
+      counted-part (counted (t i)) (at i) (x (t i) .period) (r .before .row4 .ensures) (r .row5 .ensures) (whole i .0) (c .before .difference2 .ensures)
       ∙ ap (λ (l : List ℕ). padded (vector l)) (sym (next-block (w (t i)) (x (t i)) (range (t i)) (at i) (passed i)))
 
-  next-test : c .rows-differ .result ≡ not like
+  next-test : c .differs .result ≡ not like
   next-test =
-      c .rows-differ .ensures ∙ ap not (same-rows next (block (w (t i)) (x (t i)) 1) of-next (first (i .before .before .before)))
+      c .differs .ensures ∙ ap not (same-rows next (block (w (t i)) (x (t i)) 1) of-next (first (i .before .before .before)))
 
 returns-2 : tie.Need-returns-2 Inv-loop μ-loop
 returns-2 c =
@@ -187,7 +187,7 @@ row-requires-7 c κs = omega (arith, rest (c .before))
 difference-requires-3 : tie.Need-difference-requires-3 Inv-loop μ-loop
 difference-requires-3 c κs =
     let l = c .before .before in
-    counted-rises (w (u l)) (table (u l)) (counted (u l)) _ _ (c .before .row6 .ensures) (c .row7 .ensures) (omega (arith, rest l)) (omega (arith, rest l))
+    counted-rises (counted (u l)) _ _ (c .before .row6 .ensures) (c .row7 .ensures) (omega (arith, rest l)) (omega (arith, rest l))
 
 exceeds-requires-2 : tie.Need-exceeds-requires-2 Inv-loop μ-loop
 exceeds-requires-2 c κs = search needs
@@ -201,7 +201,7 @@ returns-3 c =
     let left : length (w (u l)) - end l < x (u l) .period = l .loop-test .left in
     let blocks : wholeBlocks (length (w (u l))) (x (u l)) ≡ p .blocks = all-passed (w (u l)) (x (u l)) (range (u l)) (end l) p left in
     let tail : c .before .difference3 .result ≡ padded (vector (tailOf (w (u l)) (x (u l)))) =
-    counted-part (w (u l)) (table (u l)) (counted (u l)) (end l) (length (w (u l)) - end l) (rw (rest l .0) at (r .before .row6 .ensures)) (r .row7 .ensures) (omega (arith, rest l))
+    counted-part (counted (u l)) (end l) (length (w (u l)) - end l) (rw (rest l .0) at (r .before .row6 .ensures)) (r .row7 .ensures) (omega (arith, rest l))
     (c .before .difference3 .ensures)
     ∙ ap (λ (v : List ℕ). padded (vector v)) (sym (tail-left (w (u l)) (x (u l)) (range (u l)) (end l) p left)) in
     ap not (c .exceeds2 .ensures) ∙ Bool·not-not _ ∙ noneAbove-rows (tailOf (w (u l)) (x (u l))) (block (w (u l)) (x (u l)) 1) tail (first b)
@@ -227,7 +227,7 @@ holds-spec =
     row-requires-4
     row-requires-5
     difference-requires-2
-    rows-differ-requires
+    differs-requires
     returns-2
     add-at-2
     loop-less

@@ -15,7 +15,7 @@ use Rattle.abelian.specs.Periods
 use Rattle.abelian.specs.EndedLengths.{boardOf}
 use Rattle.abelian.specs.Trackers.{boardSize, entryAdded}
 use Rattle.abelian.proofs.Tests.{is-true}
-use Rattle.abelian.proofs.Pairs.{InRange, range-in}
+use Rattle.abelian.proofs.Pairs.{InRange, range-in, in-range-longer, heads-in-range}
 use Rattle.board.specs.Places.{placeOf, rowStart, entryAt}
 use Rattle.board.specs.Ending.{rowOpen, rowEnded}
 use Rattle.board.proofs.Rows.{row-end}
@@ -69,8 +69,7 @@ module _ (c : tie.After-row-heads Inv-loop μ-loop) where
 
   -- a head of the row is in range
   in-row : (h : ℕ) → h < Periods.heads (length word) p → InRange (length word) (pair h p)
-  unfolding Periods.heads
-  in-row h l = record { positive = start .pre .1 .1 .0; below = omega arith; fits = omega (arith, start .pre .1 .1 .1) }
+  in-row h l = heads-in-range (start .pre .1 .1 .0) (start .pre .1 .1 .1) l
 
 loop-holds : tie.Need-loop-holds Inv-loop μ-loop
 loop-holds c = (omega arith, omega arith, refl, none-below (entryAdded (word c)) (p c) (board c) (long c))
@@ -115,7 +114,7 @@ loop-again c =
     let b = i .before .loop .board in
     let less : h < Periods.heads (length (word r)) (p r) = omega (arith, has r, i .loop-test .taken) in
     let range : InRange (length (word r)) x = in-row r h less in
-    let inside : T (inRange longest x) = range-in longest x (record { positive = range .positive; below = range .below; fits = omega (arith, range .fits, start r .pre .0 .short) }) in
+    let inside : T (inRange longest x) = range-in longest x (in-range-longer range (start r .pre .0 .short)) in
     let at : r .before .row-start .result + h ≡ placeOf x = place-at r h in
     let entry : getD b (r .before .row-start .result + h) 0 ≡ entryAt (board r) x =
     ap₂ (λ l k. getD l k 0) (i .before .loop .inv .3) at ∙ entry-untouched (entryAdded (word r)) (p r) (board r) (long r) h inside in

@@ -20,11 +20,9 @@ loop-holds : tie.Need-loop-holds Inv-loop μ-loop
 loop-holds c = raised-none
 
 array-read-more : tie.Need-array-read-more Inv-loop μ-loop
-unfolding alphabetSize
 array-read-more c = search needs
 
 cast-more : tie.Need-cast-more Inv-loop μ-loop
-unfolding alphabetSize
 cast-more c = search needs
 
 cast-more-2 : tie.Need-cast-more-2 Inv-loop μ-loop
@@ -38,11 +36,9 @@ add-more c =
     omega (arith, start .pre .1 j (c .loop-test .taken), byte-le-1 (eqb (start .args .place) j))
 
 array-write-more : tie.Need-array-write-more Inv-loop μ-loop
-unfolding alphabetSize
 array-write-more c = search needs
 
 add-j : tie.Need-add-j Inv-loop μ-loop
-unfolding alphabetSize
 add-j c = search needs
 
 loop-less : tie.Need-loop-less Inv-loop μ-loop
@@ -50,7 +46,6 @@ unfolding alphabetSize
 loop-less c = search needs
 
 loop-again : tie.Need-loop-again Inv-loop μ-loop
-unfolding alphabetSize
 loop-again c =
     let start = c .before .before in
     let j = c .before .loop .j in
@@ -58,7 +53,6 @@ loop-again c =
     raised-more (c .before .loop .inv) l (raised-at (start .args .t1) (start .args .place) j l)
 
 returns : tie.Need-returns Inv-loop μ-loop
-unfolding alphabetSize
 returns c = raised-all (c .before .loop .inv) (omega (arith, c .before .before .good .0 .1 .0 .1))
 
 pub count-more-spec : {M : Type 1} → statement M

@@ -68,10 +68,10 @@ module _ (c : tie.After-k Inv-loop μ-loop) where
   same = omega (arith, letter (c .before))
 
   read : getD (getD table i []) (getD w i 0 - firstLetter) 0 ≡ count (firstLetter + (getD w i 0 - firstLetter)) (take i w)
-  read = counted-entry w table (c .before .before .before .before .pre .0) i (omega arith) (getD w i 0 - firstLetter) place
+  read = counted-entry (c .before .before .before .before .pre .0) i (omega arith) (getD w i 0 - firstLetter) place
 
   small : getD (getD table i []) (getD w i 0 - firstLetter) 0 ≤ i
-  small = letter-small w table (c .before .before .before .before .pre .0) i (omega arith) i (omega arith)
+  small = letter-small (c .before .before .before .before .pre .0) i (omega arith) i (omega arith)
 
 cast-k : tie.Need-cast-k Inv-loop μ-loop
 unfolding firstLetter longest

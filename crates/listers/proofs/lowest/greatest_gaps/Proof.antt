@@ -53,12 +53,12 @@ module _ (c : tie.After-shared-slice-known Inv-loop μ-loop) where
   k = getD (getD (at-loop .before .args .counts .now) i []) (byte - firstLetter) 0
 
   read : k ≡ count byte (take i w)
-  read = letter-counted w (at-loop .before .args .counts .now) (at-loop .before .pre .0) (i - 1) (omega arith) i (at-loop .loop .inv .within)
+  read = letter-counted (at-loop .before .pre .0) (i - 1) (omega arith) i (at-loop .loop .inv .within)
 
   small : k ≤ longest
   small =
       let b = at-loop .loop .inv .within in
-      omega (arith, letter-small w (at-loop .before .args .counts .now) (at-loop .before .pre .0) (i - 1) (omega arith) i b, at-loop .before .pre .0 .short)
+      omega (arith, letter-small (at-loop .before .pre .0) (i - 1) (omega arith) i b, at-loop .before .pre .0 .short)
 
   -- the letter's next occurrence
   abbrev next : ℕ
@@ -66,7 +66,7 @@ module _ (c : tie.After-shared-slice-known Inv-loop μ-loop) where
 
   next-occurrence : next ≡ occurrence byte (suc (count byte (take i w))) w
   next-occurrence =
-      letter-position w (at-loop .before .args .counts .now) (at-loop .before .pre .0) (i - 1) (omega arith) (at-loop .before .args .select .now) (at-loop .before .pre .1) k small
+      letter-position (at-loop .before .pre .0) (i - 1) (omega arith) (at-loop .before .pre .1) k small
       ∙ ap (λ (n : ℕ). occurrence byte (suc n) w) read
 
   gap-small : at-loop .loop .gap ≤ length w
@@ -121,7 +121,7 @@ unfolding firstLetter
 cast-next c =
     let d = c .before .before in
     let s = at-loop d .before in
-    position-fits (w d) (s .args .counts .now) (s .pre .0) (i d - 1) (omega arith) (s .args .select .now) (s .pre .1) (k d) (small d)
+    position-fits (s .pre .0) (i d - 1) (omega arith) (s .pre .1) (k d) (small d)
 
 add-if1 : tie.Need-add-if1 Inv-loop μ-loop
 unfolding longest

@@ -86,7 +86,7 @@ module _ (c : tie.After-shared-slice-known2 Inv-loop μ-loop) where
   k = getD (getD (start .args .counts .now) (h + 1) []) (letter - firstLetter) 0
 
   read : k ≡ count letter (take (h + 1) w)
-  read = letter-counted w (start .args .counts .now) (start .pre) h inside (h + 1) longer
+  read = letter-counted (start .pre) h inside (h + 1) longer
 
   some : 1 ≤ k
   some = omega (arith, read, count-here w h inside letter refl)
@@ -96,13 +96,13 @@ module _ (c : tie.After-shared-slice-known2 Inv-loop μ-loop) where
 
   on-table : 2 * k - 1 ≤ longest
   on-table =
-      let small = letter-small w (start .args .counts .now) (start .pre) h inside (h + 1) longer in
+      let small = letter-small (start .pre) h inside (h + 1) longer in
       omega (arith, c .before .before .loop-test .taken, start .pre .short)
 
   position : at ≡ occurrence letter (2 * count letter (take (h + 1) w)) w
   position =
       let e : suc (2 * k - 1) ≡ 2 * count letter (take (h + 1) w) = omega (arith, some, read) in
-      letter-position w (start .args .counts .now) (start .pre) h inside (found .find-positions .last .1 .1 .0) (found .find-positions .ensures) (2 * k - 1) on-table
+      letter-position (start .pre) h inside (found .find-positions .ensures) (2 * k - 1) on-table
       ∙ ap (λ (n : ℕ). occurrence letter n w) e
 
   -- the entry of the head
@@ -169,7 +169,7 @@ cast-at : tie.Need-cast-at Inv-loop μ-loop
 unfolding firstLetter longest
 cast-at c =
     let d = c .before .before in
-    position-fits (w d) (start d .args .counts .now) (start d .pre) (h d) (inside d) _ (found d .find-positions .ensures) _ (omega (arith, on-table d))
+    position-fits (start d .pre) (h d) (inside d) (found d .find-positions .ensures) _ (omega (arith, on-table d))
 
 returns : tie.Need-returns Inv-loop μ-loop
 unfolding firstLetter

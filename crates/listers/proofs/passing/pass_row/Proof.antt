@@ -12,7 +12,7 @@ use Rattle.abelian.specs.Periods.{pair, inRange}
 use Rattle.abelian.specs.Periods
 use Rattle.abelian.specs.EndedLengths.{boardOf}
 use Rattle.abelian.specs.Trackers.{boardSize}
-use Rattle.abelian.proofs.Pairs.{InRange, range-in}
+use Rattle.abelian.proofs.Pairs.{InRange, range-in, in-range-longer, heads-in-range}
 use Rattle.board.specs.Places.{placeOf, rowStart, entryAt}
 use Rattle.board.proofs.Rows.{row-end}
 use Rattle.board.proofs.EndedRows.{below, none-below, entry-untouched, next-below, all-below}
@@ -73,8 +73,7 @@ module _ (c : tie.After-row-heads Inv-loop μ-loop) where
 
   -- a head of the row is in range
   in-row : (h : ℕ) → h < Periods.heads n p → InRange n (pair h p)
-  unfolding Periods.heads
-  in-row h l = record { positive = start .pre .1 .1 .0; below = omega arith; fits = omega (arith, start .pre .1 .1 .1) }
+  in-row h l = heads-in-range (start .pre .1 .1 .0) (start .pre .1 .1 .1) l
 
 loop-holds : tie.Need-loop-holds Inv-loop μ-loop
 loop-holds c = (omega arith, none-below (entryPassed (n c) (lowest c)) (p c) (board c) (long c))
@@ -91,7 +90,7 @@ module _ (c : tie.In-loop Inv-loop μ-loop) where
   range = in-row r h (omega (arith, has r, c .loop-test .taken))
 
   inside : InRange longest (pair h (p r))
-  inside = record { positive = range .positive; below = range .below; fits = omega (arith, range .fits, start r .pre .0) }
+  inside = in-range-longer range (start r .pre .0)
 
   at-place : r .before .row-start .result + h < boardSize
   at-place = omega (arith, on-board r, begins r, has r, c .loop-test .taken)

@@ -58,7 +58,7 @@ row-requires-2 c κs = omega (arith, counted (s (c .before)) .short, s (c .befor
 difference-requires : tie.Need-difference-requires
 difference-requires c κs =
     let d = c .before .before in
-    counted-rises (w (s d)) (table (s d)) (counted (s d)) _ _ (c .before .row .ensures) (c .row2 .ensures) (omega arith) (s d .pre .1 .0)
+    counted-rises (counted (s d)) _ _ (c .before .row .ensures) (c .row2 .ensures) (omega arith) (s d .pre .1 .0)
 
 add-row : tie.Need-add-row
 add-row c = omega (arith, behind-there c)
@@ -72,13 +72,13 @@ row-requires-4 c κs = omega (arith, counted (t (c .before)) .short, t (c .befor
 difference-requires-2 : tie.Need-difference-requires-2
 difference-requires-2 c κs =
     let d = c .before .before in
-    counted-rises (w (t d)) (table (t d)) (counted (t d)) _ _ (c .before .row3 .ensures) (c .row4 .ensures) (omega arith) (behind-there d)
+    counted-rises (counted (t d)) _ _ (c .before .row3 .ensures) (c .row4 .ensures) (omega arith) (behind-there d)
 
 returns : tie.Need-returns
 returns c =
     let r = c .before in
     let d = r .before .before in
-    counted-part (w (s d)) (table (s d)) (counted (s d)) (at (s d) - size (s d)) (size (s d)) (rw (back d) at (r .before .row .ensures)) (r .row2 .ensures)
+    counted-part (counted (s d)) (at (s d) - size (s d)) (size (s d)) (rw (back d) at (r .before .row .ensures)) (r .row2 .ensures)
     (omega (arith, back d, s d .pre .1 .0)) (c .difference .ensures)
     ∙ ap (λ (b : Bool). padded (vector (beside (w (s d)) b (at (s d)) (size (s d))))) (sym (d .if1 .taken))
 
@@ -86,7 +86,7 @@ returns-2 : tie.Need-returns-2
 returns-2 c =
     let r = c .before in
     let d = r .before .before in
-    counted-part (w (t d)) (table (t d)) (counted (t d)) (at (t d)) (size (t d)) (r .before .row3 .ensures) (r .row4 .ensures) (behind-there d) (c .difference2 .ensures)
+    counted-part (counted (t d)) (at (t d)) (size (t d)) (r .before .row3 .ensures) (r .row4 .ensures) (behind-there d) (c .difference2 .ensures)
     ∙ ap (λ (b : Bool). padded (vector (beside (w (t d)) b (at (t d)) (size (t d))))) (sym (d .if1 .left))
 
 pub count-beside-spec : {M : Type 1} → statement M

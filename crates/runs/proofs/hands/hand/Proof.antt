@@ -41,7 +41,7 @@ row-requires-2 c κs = search needs
 difference-requires : tie.Need-difference-requires Inv-loop μ-loop
 difference-requires c κs =
     let start = c .before .before .before in
-    counted-rises (start .args .word .now) (start .args .table .now) (start .pre .0) _ _ (c .before .row .ensures) (c .row2 .ensures) (omega arith) (omega (arith, start .pre .1 .0))
+    counted-rises (start .pre .0) _ _ (c .before .row .ensures) (c .row2 .ensures) (omega arith) (omega (arith, start .pre .1 .0))
 
 letters-beside-requires : tie.Need-letters-beside-requires Inv-loop μ-loop
 letters-beside-requires c κs = search needs
@@ -111,7 +111,7 @@ module _ (c : tie.After-exceeds Inv-loop μ-loop) where
       let first = at-loop .before .before .before in
       c .exceeds .ensures
       ∙ ap not (noneAbove-rows (beside w before at middle) (part w (i - 1) d) (c .before .count-beside .ensures)
-      (counted-part w (start .args .table .now) (start .pre .0) (i - 1) d (first .before .before .row .ensures) (first .before .row2 .ensures) (omega (arith, start .pre .1 .0))
+      (counted-part (start .pre .0) (i - 1) d (first .before .before .row .ensures) (first .before .row2 .ensures) (omega (arith, start .pre .1 .0))
       (first .difference .ensures)))
 
   -- the lengths are halved either way

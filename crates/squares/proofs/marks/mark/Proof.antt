@@ -45,7 +45,7 @@ row-requires-2 c κs = search needs
 difference-requires : tie.Need-difference-requires
 difference-requires c κs =
     let s = c .before .before .before in
-    counted-rises (word s) (table s) (counted s) _ _ (c .before .row .ensures) (c .row2 .ensures) (omega arith) (omega arith)
+    counted-rises (counted s) _ _ (c .before .row .ensures) (c .row2 .ensures) (omega arith) (omega arith)
 
 add-row : tie.Need-add-row
 add-row c = search needs
@@ -59,12 +59,12 @@ row-requires-4 c κs = search needs
 difference-requires-2 : tie.Need-difference-requires-2
 difference-requires-2 c κs =
     let s = c .before .before .before .before .before .before in
-    counted-rises (word s) (table s) (counted s) _ _ (c .before .row3 .ensures) (c .row4 .ensures) (omega arith) (omega arith)
+    counted-rises (counted s) _ _ (c .before .row3 .ensures) (c .row4 .ensures) (omega arith) (omega arith)
 
-rows-differ-requires : tie.Need-rows-differ-requires
-rows-differ-requires c κs = search needs
+differs-requires : tie.Need-differs-requires
+differs-requires c κs = search needs
 
-module _ (c : tie.After-rows-differ) where
+module _ (c : tie.After-differs) where
   abbrev second : tie.After-difference2
   second = c .before
 
@@ -80,17 +80,17 @@ module _ (c : tie.After-rows-differ) where
   -- what is compared are the rows of the two halves
   first-half : first .difference .result ≡ padded (vector (part (word s) (from s) (half s)))
   first-half =
-      counted-part (word s) (table s) (counted s) (from s) (half s) (first .before .before .row .ensures) (first .before .row2 .ensures) (omega arith) (first .difference .ensures)
+      counted-part (counted s) (from s) (half s) (first .before .before .row .ensures) (first .before .row2 .ensures) (omega arith) (first .difference .ensures)
 
   second-half : second .difference2 .result ≡ padded (vector (part (word s) (from s + half s) (half s)))
   second-half =
-      counted-part (word s) (table s) (counted s) (from s + half s) (half s) (second .before .before .row3 .ensures) (second .before .row4 .ensures) (omega arith)
+      counted-part (counted s) (from s + half s) (half s) (second .before .before .row3 .ensures) (second .before .row4 .ensures) (omega arith)
       (second .difference2 .ensures)
 
   -- so the comparison is the definition's
-  compared : c .rows-differ .result ≡ not square
+  compared : c .differs .result ≡ not square
   unfolding isSquare
-  compared = c .rows-differ .ensures ∙ ap not (same-rows (part (word s) (from s) (half s)) (part (word s) (from s + half s) (half s)) first-half second-half)
+  compared = c .differs .ensures ∙ ap not (same-rows (part (word s) (from s) (half s)) (part (word s) (from s + half s) (half s)) first-half second-half)
 
 returns : tie.Need-returns
 returns c = rw (not-true (square (c .before)) (sym (compared (c .before)) ∙ c .if1 .taken))
@@ -111,6 +111,6 @@ mark-spec =
     row-requires-3
     row-requires-4
     difference-requires-2
-    rows-differ-requires
+    differs-requires
     returns
     returns-2)
