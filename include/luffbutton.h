@@ -77,8 +77,9 @@
  *
  * STACK AND TIME. The macros LUFF_STACK_.. below limit the bytes of stack that a call takes beyond the word, the record, the places and the
  * tracker that it is lent. They are measured and not proved: examples/c/stack_use.c makes each call in several ways and fails above them.
- * How the time grows was measured from 120 to 240 letters on words of seven kinds, that of luff_list_runs also on abba repeated, and that of
- * luff_list_windows on records of 1,024 to 65,536 letters, as n to the power (docs/PERFORMANCE.md, which has the times too):
+ * How the time grows was measured from 120 to 240 letters on words of seven kinds, that of luff_list_runs also on abba repeated, that of
+ * luff_report on the six that are not of equal letters, and that of luff_list_windows on records of 1,024 to 65,536 letters, as n to the
+ * power (docs/PERFORMANCE.md, which has the times too):
  *
  *     luff_list_plain, luff_list_skipping           1.8 to 2.2
  *     luff_list_squares, luff_report                1.8 to 2.0
@@ -109,7 +110,7 @@ extern "C" {
 #endif
 
 /* The version of this interface. It rises with each change of an answer or of a layout, and with each function that joins. */
-#define LUFF_VERSION 7
+#define LUFF_VERSION 8
 
 /* The byte of the first letter, a, and how many letters there are. */
 #define LUFF_FIRST_LETTER 97
@@ -123,15 +124,21 @@ extern "C" {
 #define LUFF_LONGEST_RECORD 65536
 
 /*
- * The most words that a list can have: periods, 58,080 bytes; squares, 57,600 bytes; full periods, 80 bytes; a report, 115,764 bytes, which
- * is one word and the other three; windows, 262,144 bytes, which a pattern of one letter has in the longest record of that letter alone.
- * With so many places no list is too long. For windows as many places as the record has letters are also enough.
+ * The most words that a list can have: periods, 58,080 bytes; squares, 57,600 bytes; full periods, 80 bytes; windows, 262,144 bytes, which a
+ * pattern of one letter has in the longest record of that letter alone. With so many places no list is too long. For windows as many places
+ * as the record has letters are also enough.
  */
 #define LUFF_MOST_PERIODS 14520
 #define LUFF_MOST_SQUARES 14400
 #define LUFF_MOST_FULL 20
-#define LUFF_MOST_REPORT 28941
 #define LUFF_MOST_WINDOWS 65536
+
+/*
+ * Places enough for the report of every word, 115,764 bytes: one word, and the most periods, squares and full periods. It is a bound that no
+ * report reaches, since only a word whose letters are all equal has so many periods, and that is refused with 10. The longest report is not
+ * known.
+ */
+#define LUFF_MOST_REPORT 28941
 
 /*
  * Places enough for the runs of every word, 70,728 bytes: no two runs of one d start d letters apart, and each is two words. It is a
@@ -157,8 +164,8 @@ extern "C" {
 #define LUFF_STACK LUFF_STACK_REPORT
 
 /*
- * What `refusal` is. Where several apply, the first counts: of a word in the order 1, 2, 7, 3, of a tracker in the order 6, 2, 4, 5, 3, of a
- * pattern and a record in the order 1 and 2 of the pattern, 8, 9, 2 of the record, 3.
+ * What `refusal` is. Where several apply, the first counts: of a word in the order 1, 2, 7, 10, 3, of a tracker in the order 6, 2, 4, 5, 3,
+ * of a pattern and a record in the order 1 and 2 of the pattern, 8, 9, 2 of the record, 3.
  */
 enum luff_refusal {
     LUFF_ACCEPTED = 0,
@@ -179,7 +186,9 @@ enum luff_refusal {
     /* The pattern has no letters. */
     LUFF_PATTERN_EMPTY = 8,
     /* The record has more than LUFF_LONGEST_RECORD bytes. */
-    LUFF_RECORD_TOO_LONG = 9
+    LUFF_RECORD_TOO_LONG = 9,
+    /* A report, or its count, of a word of two or more letters that are all equal. Every other call takes such a word. */
+    LUFF_ONE_LETTER = 10
 };
 
 /*
@@ -296,7 +305,7 @@ struct luff_verdict luff_judge(const uint8_t *word, size_t n, struct luff_head h
 
 /*
  * The list calls write their words to the first of `places` places at `out` and leave the places behind them as they are. Refusals 1, 2, 3;
- * luff_list_windows, given below, has more.
+ * luff_report and luff_list_windows, given below, have more.
  */
 
 /* All Abelian periods. trials: the pairs in range, which are all tried. */
@@ -319,11 +328,12 @@ struct luff_wrote luff_list_runs(const uint8_t *LUFF_RESTRICT word, size_t n, ui
 
 /*
  * A report: one word of LUFF_KIND_REPORT, then the full periods, the periods and the squares. With fewer than LUFF_MOST_REPORT places the
- * whole is counted before it is written, which takes time; with as many or more that is spared.
+ * whole is counted before it is written, which takes time; with as many or more that is spared. Of two or more letters that are
+ * all equal every pair in range is a period, and there is no report. Refusals, in this order: 1, 2, 10, 3.
  */
 struct luff_wrote luff_report(const uint8_t *LUFF_RESTRICT word, size_t n, uint32_t *LUFF_RESTRICT out, size_t places);
 
-/* The counts: how many words each of these calls writes, a run's two included. Refusals 1, 2. */
+/* The counts: how many words each of these calls writes, a run's two included. Refusals 1, 2; of luff_count_report 10 behind them. */
 struct luff_counted luff_count_plain(const uint8_t *word, size_t n);
 struct luff_counted luff_count_skipping(const uint8_t *word, size_t n);
 struct luff_counted luff_count_full(const uint8_t *word, size_t n);

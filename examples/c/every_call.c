@@ -199,7 +199,10 @@ int main(void)
     report("abb", PLACES);
     report("abb", 4);
     report("abba", PLACES);
+    report("a", PLACES);
+    report("aa", PLACES);
     count("abaababa");
+    count("aa");
     count("aBc");
     list_windows("ab", "abbaab", PLACES);
     list_windows("ab", "abbaab", 2);

@@ -23,7 +23,7 @@
  * is also the pattern that is looked for in the record, which has room for one letter too many.
  */
 static char all_letters[LUFF_LETTERS + 1];
-static const char *const blocks[] = {"a", "a", "ab", "abaababa", all_letters};
+static const char *const blocks[] = {"ab", "a", "ab", "abaababa", all_letters};
 static uint8_t word[LUFF_LONGEST];
 static uint8_t record[LUFF_LONGEST_RECORD + 1];
 

@@ -10,7 +10,8 @@ use lib.ListN.{length}
 use lib.Dec.{T, eqb, ltb}
 use borrow.Author.Tests.{lt-ltb, le-ltb, ltb-true}
 use Rattle.abelian.specs.Lists.{pick, all}
-use Rattle.abelian.specs.Refusals.{numberOf, Condition, firstHolding, tooFewPlaces, wordConditions, wordRefusal, windowConditions, windowRefusal, trackerRefusal}
+use Rattle.abelian.specs.Words.{oneLetter}
+use Rattle.abelian.specs.Refusals.{numberOf, Condition, firstHolding, tooFewPlaces, wordConditions, wordRefusal, reportRefusal, windowConditions, windowRefusal, trackerRefusal}
 use Rattle.abelian.specs.Answers.{Answer, refusing, counting, unless}
 use Rattle.abelian.specs.Calls.{writingWords, listing, countWords, periodWords, fullWords, reportWords, plainListing, skippingListing, fullListing, scaledListing, squareListing, runListing, windowListing, reporting, periodCount, fullCount, squareCount, runCount, windowCount, reportCount}
 use Rattle.abelian.specs.Trials.{plainTrials, skippingTrials}
@@ -93,7 +94,7 @@ module _ (ws : List ℕ) (trials s t : ℕ) where
 
 listing-as-counted : (w ws : List ℕ) (trials s t : ℕ) → WritesAsCounted (countWords w ws) (λ (out : List ℕ). listing w out ws trials s t)
 unfolding countWords listing wordRefusal firstHolding
-listing-as-counted w ws trials s t = conditions-as-counted ws trials s t (wordConditions w false) tt
+listing-as-counted w ws trials s t = conditions-as-counted ws trials s t (wordConditions w false false) tt
 
 module _ (w : List ℕ) where
   pub plain-as-counted : WritesAsCounted (periodCount w) (plainListing w)
@@ -121,8 +122,8 @@ module _ (w : List ℕ) where
   runs-as-counted = listing-as-counted w (runWords w) 0 0 0
 
   pub report-as-counted : WritesAsCounted (reportCount w) (reporting w)
-  unfolding reportCount reporting
-  report-as-counted = listing-as-counted w (reportWords w) 0 0 0
+  unfolding reportCount reporting reportRefusal firstHolding
+  report-as-counted = conditions-as-counted (reportWords w) 0 0 0 (wordConditions w false (oneLetter w)) tt
 
 -- ---- the list of windows
 

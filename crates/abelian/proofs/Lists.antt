@@ -150,6 +150,15 @@ keep-shorter f (x ∷ xs) = go (f x) (keep-shorter f xs)
     go true h = omega arith
     go false h = omega arith
 
+-- where as many are kept as there are, all pass
+pub keep-whole : {A : Type 0} (f : A → Bool) (xs : List A) → length (keep f xs) ≡ length xs → T (all f xs)
+keep-whole f [] e = tt
+keep-whole f (x ∷ xs) e = go (f x) (keep-whole f xs) e
+  where
+    go : (b : Bool) → (length (keep f xs) ≡ length xs → T (all f xs)) → length (put b x (keep f xs)) ≡ suc (length xs) → T (b && all f xs)
+    go true h q = h (omega arith)
+    go false h q = absurd (omega (arith, keep-shorter f xs))
+
 -- kept by one test and then by another
 pub keep-keep : {A : Type 0} (f g : A → Bool) (xs : List A) → keep f (keep g xs) ≡ keep (λ (x : A). f x && g x) xs
 keep-keep f g [] = refl

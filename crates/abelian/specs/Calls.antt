@@ -14,7 +14,7 @@ use Rattle.abelian.specs.Squares.{squareWords}
 use Rattle.abelian.specs.Runs.{runWords}
 use Rattle.abelian.specs.Windows.{windowWords}
 use Rattle.abelian.specs.Covers.{coverLength}
-use Rattle.abelian.specs.Refusals.{wordRefusal, windowRefusal}
+use Rattle.abelian.specs.Refusals.{wordRefusal, windowRefusal, reportRefusal}
 use Rattle.abelian.specs.Answers.{Answer, writing, counting, deciding, unless}
 
 -- yes, or the first failure
@@ -99,12 +99,13 @@ noneOrLength m = pick (eqb m 0) (deciding 0 0 0 0) (deciding 1 0 0 m)
 unfoldable pub coverAnswer : List ℕ → Answer
 coverAnswer w = unless (wordRefusal w false 0 0) [] (noneOrLength (coverLength w))
 
--- "Report": one word of kind 8, which carries the cover length (C-14), then full periods, periods, squares; and the number of these words.
+-- "Report": one word of kind 8, which carries the cover length (C-14), then full periods, periods, squares.
 unfoldable pub reportWords : List ℕ → List ℕ
 reportWords w = reportHead (length w) (coverLength w) ∷ (fullWords w ++ (periodWords w ++ squareWords w))
 
+-- Refusals 1, 2, 10 (C-17), 3, else these words; and their number, with these refusals but 3.
 unfoldable pub reporting : List ℕ → List ℕ → Answer
-reporting w out = listing w out (reportWords w) 0 0 0
+reporting w out = unless (reportRefusal w (length (reportWords w)) (length out)) out (writingWords (reportWords w) 0 0 0 out)
 
 unfoldable pub reportCount : List ℕ → Answer
-reportCount w = countWords w (reportWords w)
+reportCount w = unless (reportRefusal w 0 0) [] (counting (length (reportWords w)))

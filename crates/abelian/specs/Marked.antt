@@ -194,9 +194,8 @@ more =
     ∷ judgedYes abaababa (pair 1 2)
     ∷ judgedNo abb (pair 1 2) 0 a
     ∷ judgedNo (a ∷ a ∷ b ∷ []) (pair 0 2) 2 b
-    -- the report, without and with a cover
+    -- the report
     ∷ reportIs abb (2147532800 ∷ 805355521 ∷ 268468224 ∷ 268484608 ∷ 536887298 ∷ [])
-    ∷ reportIs (a ∷ a ∷ []) (2147516417 ∷ 805322754 ∷ 805339137 ∷ 268451840 ∷ 268468224 ∷ 536887297 ∷ [])
     -- each answer's numbers; an accepted list keeps the places behind it
     ∷ writes (plainListing abb (5 ∷ 6 ∷ 7 ∷ [])) 2 4 0 0 (268468224 ∷ 268484608 ∷ 7 ∷ [])
     ∷ writes (skippingListing abb (5 ∷ 6 ∷ [])) 2 3 0 0 (268468224 ∷ 268484608 ∷ [])
@@ -277,6 +276,10 @@ aqar = a ∷ q ∷ a ∷ r ∷ []
 
 abbrev ayaz : List ℕ
 ayaz = a ∷ y ∷ a ∷ z ∷ []
+
+-- the word of most of C-17's rows
+abbrev aa : List ℕ
+aa = a ∷ a ∷ []
 
 -- Rows of document 02.
 unfoldable pub requested : List Row
@@ -374,4 +377,33 @@ requested =
     -- the last letter in a head and in a tail
     ∷ judgedNo (z ∷ y ∷ a ∷ []) (pair 1 2) 0 z
     ∷ judgedNo (a ∷ y ∷ z ∷ []) (pair 0 2) 2 z
+    -- C-17: two or more letters that are all equal are not reported, and one letter is
+    ∷ refuses (reporting aa (5 ∷ 6 ∷ 7 ∷ 8 ∷ 9 ∷ 10 ∷ [])) 10 0 (5 ∷ 6 ∷ 7 ∷ 8 ∷ 9 ∷ 10 ∷ [])
+    ∷ refuses (reportCount aa) 10 0 []
+    ∷ refuses (reportCount (z ∷ z ∷ z ∷ [])) 10 0 []
+    ∷ refuses (reportCount (replicate 240 b)) 10 0 []
+    ∷ writes (reporting (a ∷ []) (5 ∷ 6 ∷ 7 ∷ 8 ∷ [])) 3 0 0 0 (2147500032 ∷ 805322753 ∷ 268451840 ∷ 8 ∷ [])
+    ∷ counts (reportCount (a ∷ [])) 3
+    ∷ writes (reporting [] (5 ∷ [])) 1 0 0 0 (2147483648 ∷ [])
+    -- one that differs, wherever it stands, is enough for a report
+    ∷ counts (reportCount (b ∷ a ∷ a ∷ [])) 5
+    ∷ counts (reportCount (a ∷ b ∷ a ∷ [])) 5
+    ∷ counts (reportCount (a ∷ a ∷ b ∷ [])) 5
+    ∷ counts (reportCount (a ∷ a ∷ a ∷ a ∷ b ∷ [])) 9
+    -- behind 1 and 2, and before 3
+    ∷ refuses (reportCount (replicate 241 a)) 1 0 []
+    ∷ refuses (reportCount (B ∷ B ∷ [])) 2 1 []
+    ∷ refuses (reportCount (a ∷ a ∷ B ∷ [])) 2 3 []
+    ∷ refuses (reporting aa []) 10 0 []
+    -- the other calls take such a word
+    ∷ judgedYes aa (pair 0 1)
+    ∷ writes (plainListing aa (5 ∷ 6 ∷ [])) 2 2 0 0 (268451840 ∷ 268468224 ∷ [])
+    ∷ writes (skippingListing aa (5 ∷ 6 ∷ [])) 2 2 0 0 (268451840 ∷ 268468224 ∷ [])
+    ∷ writes (scaledListing aa (5 ∷ 6 ∷ [])) 2 0 1 1 (805322754 ∷ 805339137 ∷ [])
+    ∷ writes (squareListing aa (5 ∷ [])) 1 0 0 0 (536887297 ∷ [])
+    ∷ writes (runListing aa (5 ∷ 6 ∷ [])) 2 0 0 0 (1342193665 ∷ 1610743808 ∷ [])
+    ∷ counts (periodCount aa) 2
+    ∷ counts (windowCount aa (a ∷ a ∷ a ∷ [])) 2
+    ∷ coverIs aa 1
+    ∷ tracks (then (then freshTracker a) a) (a ∷ a ∷ 0 ∷ []) (pair 0 1) 0 (pair 0 1 ∷ pair 0 2 ∷ [])
     ∷ []

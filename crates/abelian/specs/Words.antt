@@ -2,9 +2,9 @@
 use Prim.Native.Nat.{ℕ, suc, _+_}
 use mathlib.Core.Bool.{Bool, true, false, _&&_}
 use mathlib.Core.List.{List, [], _∷_, map}
-use lib.ListN.{take, drop}
+use lib.ListN.{length, take, drop, getD}
 use lib.Dec.{eqb, leb, ltb}
-use Rattle.abelian.specs.Lists.{pick, one, upFrom, sum}
+use Rattle.abelian.specs.Lists.{pick, one, upFrom, sum, all}
 
 -- How many letters there are. C-16: "Letters become the bytes 97 to 122, a to z, and every vector has 26 counts." Beside the rows of `Marked`, which have
 -- it as a result, this is the one place of the definitions that names the number.
@@ -40,6 +40,14 @@ firstOutside size w = outsideFrom size 1 w
 -- A word of letters: no position holds anything else.
 unfoldable pub ofLetters : List ℕ → Bool
 ofLetters w = eqb (firstOutside alphabetSize w) 0
+
+-- C-17's "all are equal": every letter equals the first. So it is of one letter, and of none.
+unfoldable pub allEqual : List ℕ → Bool
+allEqual w = all (λ (x : ℕ). eqb x (getD w 0 0)) w
+
+-- C-17's "the word has two or more letters and all are equal", which one letter by itself is not.
+unfoldable pub oneLetter : List ℕ → Bool
+oneLetter w = leb 2 (length w) && allEqual w
 
 -- How often c stands in the stretch.
 unfoldable pub count : ℕ → List ℕ → ℕ

@@ -46,6 +46,8 @@ pub enum Refusal {
     PatternEmpty,
     // 9: a record above 65,536 bytes.
     RecordTooLong,
+    // 10: a report of a word of two or more letters that are all equal.
+    OneLetter,
 }
 
 // A refusal's number.
@@ -62,6 +64,7 @@ pub fn number(refusal: Refusal) -> usize
         Refusal::PairOutOfRange => 7,
         Refusal::PatternEmpty => 8,
         Refusal::RecordTooLong => 9,
+        Refusal::OneLetter => 10,
     }
 }
 
@@ -79,6 +82,7 @@ pub fn value(refusal: Refusal) -> usize
         Refusal::PairOutOfRange => 0,
         Refusal::PatternEmpty => 0,
         Refusal::RecordTooLong => 0,
+        Refusal::OneLetter => 0,
     }
 }
 

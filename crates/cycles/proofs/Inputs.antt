@@ -12,6 +12,7 @@ use Rattle.abelian.specs.Lists.{pick}
 use Rattle.abelian.specs.Words.{longest}
 use Rattle.abelian.specs.declared.Refusal.the-variants.{TooLong}
 use Rattle.words.proofs.Refusals.{long-refused}
+use Rattle.report.proofs.Refusals.{word-refused}
 use Rattle.cycles.specs.Lines.{wordIn, refusalLine, printed}
 use Rattle.cycles.proofs.Printing.{printed-refused}
 
@@ -26,7 +27,7 @@ word-length input = go (eqb (getD input (length input - 1) 0) 10)
 
 -- an input with two bytes more than the longest word is refused
 long-input : (input : List ℕ) → longest + 2 ≤ length input → printed (wordIn input) ≡ refusalLine TooLong
-long-input input h = printed-refused (wordIn input) (long-refused (wordIn input) false 0 0 (omega (arith, word-length input)))
+long-input input h = printed-refused (wordIn input) (word-refused (wordIn input) (long-refused (wordIn input) false 0 0 (omega (arith, word-length input))))
 
 -- What stands behind the first bytes, two more than the longest word has, changes nothing.
 pub first-bytes-decide : (input : List ℕ) → printed (wordIn (take (longest + 2) input)) ≡ printed (wordIn input)

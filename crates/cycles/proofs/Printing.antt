@@ -1,20 +1,21 @@
 -- What is printed for a word, from what its report answers: the report is not refused for want of places, so its words or its refusal tell it all.
 use mathlib.Core.Path.{_≡_, refl, sym, ap, ap₂, _∙_}
-use mathlib.Core.Bool.{false}
 use mathlib.Core.Option.{Option, none, some}
 use mathlib.Core.List.{List, [], _∷_}
 use Prim.Native.Nat.{ℕ, _≤_}
 use native.Mathlib.Omega.{arith}
 use lib.ListN.{length, take}
+use Rattle.abelian.specs.Words.{longest}
 use Rattle.abelian.specs.Output.{fill}
-use Rattle.abelian.specs.Refusals.{wordRefusal}
+use Rattle.abelian.specs.Refusals.{reportRefusal}
 use Rattle.abelian.specs.Answers.{Answer, answeredWrote, refusing, writing}
 use Rattle.abelian.specs.Calls.{reportWords, reporting}
 use Rattle.abelian.specs.declared.Refusal.{Refusal}
 use Rattle.abelian.specs.declared.Wrote.the-variants.{Words, Refused}
 use Rattle.abelian.proofs.Refusals.{refusal-number}
 use Rattle.words.proofs.Refusals.{accepted-length}
-use Rattle.words.proofs.Listings.{listing-refused, listing-written}
+use Rattle.words.proofs.Listings.{listing-written}
+use Rattle.report.proofs.Refusals.{accepted-word, report-refused, report-listing}
 use Rattle.report.proofs.Lengths.{report-places}
 use Rattle.words.proofs.Lists.{length-fill, take-fill}
 use Rattle.cycles.specs.Text.{ascii, line}
@@ -31,36 +32,34 @@ pub record Reported (w after : List ℕ) (n : ℕ) : Type 0 where
   pub text : textOf (take n after) ≡ printed w
 
 module _ (w : List ℕ) where
+  accepted-short : reportRefusal w 0 0 ≡ none → length w ≤ longest
+  accepted-short accepted = accepted-length w (accepted-word w accepted)
+
   -- the report of an accepted word has few words
-  report-short : wordRefusal w false 0 0 ≡ none → length (reportWords w) ≤ longestReport
-  report-short accepted = report-places w (accepted-length w accepted)
+  report-short : reportRefusal w 0 0 ≡ none → length (reportWords w) ≤ longestReport
+  report-short accepted = report-places w (accepted-short accepted)
 
-  printed-accepted : wordRefusal w false 0 0 ≡ none → printed w ≡ textOf (reportWords w)
+  printed-accepted : reportRefusal w 0 0 ≡ none → printed w ≡ textOf (reportWords w)
   unfolding printed linesUnless
-  printed-accepted accepted = rw accepted (sym (text-accepted w (accepted-length w accepted)))
+  printed-accepted accepted = rw accepted (sym (text-accepted w (accepted-short accepted)))
 
-  pub printed-refused : {r : Refusal} → wordRefusal w false 0 0 ≡ some r → printed w ≡ refusalLine r
+  pub printed-refused : {r : Refusal} → reportRefusal w 0 0 ≡ some r → printed w ≡ refusalLine r
   unfolding printed linesUnless
   printed-refused refused = rw refused
 
 module _ (w out after : List ℕ) (places : longestReport ≡ length out) where
   -- an accepted word's report is written
-  report-written : wordRefusal w false 0 0 ≡ none → reporting w out ≡ writing (length (reportWords w)) 0 0 0 (fill (reportWords w) out)
-  unfolding reporting
-  report-written accepted = listing-written w out (reportWords w) 0 0 0 accepted (omega (arith, report-short w accepted))
-
-  -- a refused word's is refused
-  report-refused : {r : Refusal} → wordRefusal w false 0 0 ≡ some r → reporting w out ≡ refusing r out
-  unfolding reporting
-  report-refused refused = listing-refused w out (reportWords w) 0 0 0 refused
+  report-written : reportRefusal w 0 0 ≡ none → reporting w out ≡ writing (length (reportWords w)) 0 0 0 (fill (reportWords w) out)
+  report-written accepted =
+      report-listing w accepted out ∙ listing-written w out (reportWords w) 0 0 0 (accepted-word w accepted) (omega (arith, report-short w accepted))
 
   -- Where the report answers words, they are the word's report.
   pub words-reported : (n : ℕ) → answeredWrote (Words n) after ≡ reporting w out → Reported w after n
   unfolding reportWords
-  words-reported n e = go (wordRefusal w false 0 0) refl
+  words-reported n e = go (reportRefusal w 0 0) refl
     where
-      go : (o : Option Refusal) → wordRefusal w false 0 0 ≡ o → Reported w after n
-      go (some r) refused = absurd (omega (arith, refusal-number r, ap (λ (a : Answer). a .number) (e ∙ report-refused refused)))
+      go : (o : Option Refusal) → reportRefusal w 0 0 ≡ o → Reported w after n
+      go (some r) refused = absurd (omega (arith, refusal-number r, ap (λ (a : Answer). a .number) (e ∙ report-refused w refused out)))
       go none accepted =
           let ws : List ℕ = reportWords w in
           let few : length ws ≤ longestReport = report-short w accepted in
@@ -78,11 +77,11 @@ module _ (w out after : List ℕ) (places : longestReport ≡ length out) where
   -- Where it is refused, the line of the refusal is what is printed.
   pub refusal-reported : (r : Refusal) → answeredWrote (Refused r) after ≡ reporting w out → refusalLine r ≡ printed w
   unfolding refusalLine
-  refusal-reported r e = go (wordRefusal w false 0 0) refl
+  refusal-reported r e = go (reportRefusal w 0 0) refl
     where
-      go : (o : Option Refusal) → wordRefusal w false 0 0 ≡ o → refusalLine r ≡ printed w
+      go : (o : Option Refusal) → reportRefusal w 0 0 ≡ o → refusalLine r ≡ printed w
       go none accepted = absurd (omega (arith, refusal-number r, ap (λ (a : Answer). a .number) (e ∙ report-written accepted)))
       go (some q) refused =
-          let told : refusing r after ≡ refusing q out = e ∙ report-refused refused in
+          let told : refusing r after ≡ refusing q out = e ∙ report-refused w refused out in
           ap₂ (λ (n v : ℕ). line (ascii "refused") (n ∷ v ∷ [])) (ap (λ (a : Answer). a .number) told) (ap (λ (a : Answer). a .value) told)
           ∙ sym (printed-refused w refused)

@@ -1,6 +1,6 @@
 -- Document 01's "Program": the word in an input, and the lines that are printed for a word.
 use Prim.Native.Nat.{ℕ, _-_}
-use mathlib.Core.Bool.{Bool, false}
+use mathlib.Core.Bool.{Bool}
 use mathlib.Core.Option.{Option, none, some}
 use mathlib.Core.List.{List, [], _∷_, _++_}
 use lib.ListN.{length, take, getD}
@@ -10,7 +10,7 @@ use Rattle.abelian.specs.Periods.{Pair, periods}
 use Rattle.abelian.specs.FullPeriods.{fullPeriods}
 use Rattle.abelian.specs.Squares.{squareStarts}
 use Rattle.abelian.specs.Covers.{coverLength}
-use Rattle.abelian.specs.Refusals.{numberOf, valueOf, wordRefusal}
+use Rattle.abelian.specs.Refusals.{numberOf, valueOf, reportRefusal}
 use Rattle.abelian.specs.declared.Refusal.{Refusal}
 use Rattle.cycles.specs.Text.{ascii, line}
 
@@ -56,6 +56,6 @@ unfoldable pub linesUnless : Option Refusal → List ℕ → List ℕ
 linesUnless none lines = lines
 linesUnless (some r) lines = refusalLine r
 
--- What is printed for a word.
+-- What is printed for a word; the program has the report's refusals, 10 included (C-17).
 unfoldable pub printed : List ℕ → List ℕ
-printed w = linesUnless (wordRefusal w false 0 0) (acceptedLines w)
+printed w = linesUnless (reportRefusal w 0 0) (acceptedLines w)

@@ -1,7 +1,7 @@
 // The program: reads a word from standard input and prints its length, full periods, Abelian periods, squares and cover, or why it is
 // refused.
 //
-// Proved: for every input, the bytes that `answer` hands back are what document 01 says is printed for the input's word (`printed` and
+// Proved: for every input, the bytes that `answer` hands back are what documents 01 and 02 say is printed for the input's word (`printed` and
 // `wordIn` of specs/Lines.antt), and they are all that is handed to the one call that writes; what stands behind an input's first 242
 // bytes changes nothing of it (proofs/Inputs.antt). No contract can say which bytes a call of the operating system reads or writes:
 // that these are the input's first bytes, and that all bytes of the answer arrive, is tried by tests/cycles.

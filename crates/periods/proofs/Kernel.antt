@@ -39,7 +39,8 @@ module _ (w : List ℕ) (x : Pair) where
       (λ p. fails (same (vector (block w x k)) (vector (block w x 1))) e (equal-same (vector (block w x k)) (vector (block w x 1)) (period-conditions w x p .alike k l u)))
 
 module _ (w : List ℕ) (x : Pair) (t : T (ofLetters w)) (r : InRange (length w) x) where
-  tail-short : length (tailOf w x) < x .period
+  -- the tail is shorter than a block
+  pub tail-short : length (tailOf w x) < x .period
   unfolding tailOf
   tail-short =
       let e : Reach (length w) x = reach (length w) x (r .positive) in

@@ -2,3 +2,4 @@ pub mod PairCount
 pub mod OnceEnded
 pub mod Kernel
 pub mod EndedLengths
+pub mod OneLetter

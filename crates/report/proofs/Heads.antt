@@ -1,6 +1,5 @@
 -- The report's head: its lower part is the length that the search for a cover answers.
 use mathlib.Core.Path.{_≡_, sym, ap, _∙_}
-use mathlib.Core.Bool.{false}
 use mathlib.Core.Option.{none}
 use mathlib.Core.List.{List}
 use Prim.Native.Nat.{ℕ, _%_, _^_, _≤_, _<_}
@@ -9,7 +8,7 @@ use lib.ListN.{length, getD}
 use Rattle.abelian.specs.Words.{longest}
 use Rattle.abelian.specs.Covers.{coverLength}
 use Rattle.abelian.specs.Output.{reportHead, fill}
-use Rattle.abelian.specs.Refusals.{wordRefusal}
+use Rattle.abelian.specs.Refusals.{reportRefusal}
 use Rattle.abelian.specs.Answers.{Answer}
 use Rattle.abelian.specs.Calls.{coverAnswer, reportWords, reporting}
 use Rattle.abelian.proofs.Output.{lower-read}
@@ -17,6 +16,7 @@ use Rattle.words.proofs.Refusals.{accepted-length}
 use Rattle.words.proofs.Listings.{listing-written}
 use Rattle.covers.proofs.Answers.{answer-cover}
 use Rattle.covers.proofs.Lemma4.{coverLength-le-length}
+use Rattle.report.proofs.Refusals.{accepted-word, report-listing}
 
 module _ (w : List ℕ) (short : length w ≤ longest) where
   -- the cover length has room in the head's lower part
@@ -29,11 +29,12 @@ module _ (w : List ℕ) (short : length w ≤ longest) where
   unfolding longest reportHead
   head-lower = lower-read 8 (length w) (coverLength w) (omega arith) lower-fits
 
--- C-14's "the same cover length on each screen": of a word that is accepted, and with places enough, the first word that the report writes
+-- C-14's "the same cover length on each screen": of a word that is reported, and with places enough, the first word that the report writes
 -- has in its lower part the length that the search for a cover answers, and 0 where that answers none.
-pub head-answers : (w out : List ℕ) → wordRefusal w false 0 0 ≡ none → length (reportWords w) ≤ length out
+pub head-answers : (w out : List ℕ) → reportRefusal w 0 0 ≡ none → length (reportWords w) ≤ length out
     → getD (reporting w out .output) 0 0 % 2 ^ 14 ≡ coverAnswer w .cover
-unfolding reporting reportWords fill
-head-answers w out e room =
-    ap (λ (a : Answer). getD (a .output) 0 0 % 2 ^ 14) (listing-written w out (reportWords w) 0 0 0 e room)
+unfolding reportWords fill
+head-answers w out reported room =
+    let e = accepted-word w reported in
+    ap (λ (a : Answer). getD (a .output) 0 0 % 2 ^ 14) (report-listing w reported out ∙ listing-written w out (reportWords w) 0 0 0 e room)
     ∙ head-lower w (accepted-length w e) ∙ sym (answer-cover w e)

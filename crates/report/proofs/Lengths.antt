@@ -1,24 +1,32 @@
--- How many words a report has: those of its parts, and no more than any slice of `PLACES` places has room for.
+-- How many words a report has: those of its parts, and fewer than any slice of `PLACES` places has room for.
 use mathlib.Core.Path.{_≡_, ap}
 use mathlib.Core.Bool.{Bool, true, false, _&&_}
+use mathlib.Core.Option.{none}
 use mathlib.Core.List.{List, [], _∷_, _++_, map}
-use Prim.Native.Nat.{ℕ, _+_, _≤_}
+use Prim.Native.Nat.{ℕ, _+_, _*_, _/_, _≤_, _<_}
+use native.Mathlib.Decide.{decLt}
 use native.Mathlib.Omega.{arith}
 use lib.ListN.{length, length-append, length-map}
-use lib.Dec.{leb, leb→le}
+use lib.Dec.{leb, leb→le, le→leb, ltb, ltb→lt}
 use Rattle.abelian.specs.Lists.{upFrom, put, keep, each}
-use Rattle.abelian.specs.Words.{longest}
+use Rattle.abelian.specs.Words.{longest, allEqual, oneLetter}
 use Rattle.abelian.specs.Periods.{Pair, pair, inRange, pairs, isPeriod, periods}
 use Rattle.abelian.specs.Output.{periodWord, squareWord, fullWord}
 use Rattle.abelian.specs.FullPeriods.{divides, fullPeriods}
 use Rattle.abelian.specs.Squares.{squareStarts, squareWords}
+use Rattle.abelian.specs.Refusals.{reportRefusal}
 use Rattle.abelian.specs.Trackers.{boardSize}
 use Rattle.abelian.specs.Calls.{fullWords, periodWords, reportWords}
 use Rattle.report.specs.Places.{longestReport}
+use Rattle.abelian.proofs.Tests.{is-false, fails, both}
 use Rattle.abelian.proofs.Lists.{all-mem, upFrom-mem, keep-shorter}
+use Rattle.words.proofs.Refusals.{accepted-length, accepted-letters}
+use Rattle.periods.proofs.PairCount.{pair-count}
+use Rattle.periods.proofs.OneLetter.{fewer-periods}
 use Rattle.board.proofs.Places.{board-length, keep-in-range}
 use Rattle.squares.specs.Marks.{startMarks, squareMarks}
 use Rattle.squares.proofs.Candidates.{fewer-words, candidates-bound}
+use Rattle.report.proofs.Refusals.{accepted-word, accepted-other}
 
 -- lists that are each no longer are no longer together
 each-shorter : (f g : ℕ → List ℕ) (xs : List ℕ) → ((x : ℕ) → length (f x) ≤ length (g x)) → length (each xs f) ≤ length (each xs g)
@@ -77,3 +85,41 @@ module _ (w : List ℕ) where
   pub report-places : length w ≤ longest → length (reportWords w) ≤ longestReport
   unfolding longestReport
   report-places h = omega (arith, report-length, full-few h, periods-few h, squares-few, candidates-bound w h)
+
+-- ---- a bound that no report reaches
+
+-- the longest word alone has as many pairs in range as a board has entries: computed of all shorter lengths
+abbrev fewerPairs : ℕ → Bool
+fewerPairs n = ltb ((n + 1) / 2 * ((n + 2) / 2)) 14520
+
+fewer-pairs : (n : ℕ) → n < longest → length (pairs n) < boardSize
+unfolding longest boardSize
+fewer-pairs n h =
+    let l : (n + 1) / 2 * ((n + 2) / 2) < 14520 = ltb→lt _ 14520 (all-mem fewerPairs (upFrom 0 240) tt (upFrom-mem 0 240 n (omega arith) (omega arith))) in
+    omega (arith, pair-count n)
+
+module _ (w : List ℕ) (reported : reportRefusal w 0 0 ≡ none) where
+  short : length w ≤ longest
+  short = accepted-length w (accepted-word w reported)
+
+  -- of two or more letters, not all are equal
+  not-all-equal : 2 ≤ length w → allEqual w ≡ false
+  unfolding oneLetter
+  not-all-equal h =
+      is-false (allEqual w)
+      (λ t. fails (leb 2 (length w) && allEqual w) (accepted-other w reported) (both (leb 2 (length w)) (allEqual w) (le→leb 2 (length w) h) t))
+
+  -- so some pair in range for the longest word is no Abelian period; and shorter words have fewer pairs
+  periods-fewer : length (periods w) < boardSize
+  unfolding periods longest
+  periods-fewer = go (decLt (length w) longest)
+    where
+      go : Dec (length w < longest) → length (periods w) < boardSize
+      go (yes h) = omega (arith, fewer-pairs (length w) h, keep-shorter (isPeriod w) (pairs (length w)))
+      go (no h) =
+          let e : length w ≡ longest = omega (arith, short) in
+          omega (arith, fewer-periods w (accepted-letters w (accepted-word w reported)) (not-all-equal (omega arith)), board-length, ap (λ (n : ℕ). length (pairs n)) e)
+
+  pub report-below : length (reportWords w) < longestReport
+  unfolding longestReport
+  report-below = omega (arith, report-length w, full-few w short, periods-fewer, squares-few w, candidates-bound w short)

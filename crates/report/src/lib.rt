@@ -11,22 +11,38 @@ use abelian::Wrote;
 use parts::words_needed;
 use parts::write_parts;
 use squares::CANDIDATES;
+use words::all_equal;
 use words::check_word;
 ghost use mathlib.Core.Path.{_≡_};
-ghost use Rattle.abelian.specs.Answers.{answeredWrote, answeredNeeded};
+ghost use Rattle.abelian.specs.Refusals.{reportRefusal};
+ghost use Rattle.abelian.specs.Answers.{outcomeOf, answeredWrote, answeredNeeded};
 ghost use Rattle.abelian.specs.Calls.{reporting, reportCount};
 
 // The most full periods of a word: each divides the word's length, and no number up to 240 has more divisors than 240.
 const FULL_PERIODS: usize = 20;
 
-// Places enough for the report of every word: one for the head, and as many as there can be full periods, Abelian periods and squares.
+// Places enough for the report of every word: one for the head, and as many as there can be full periods, Abelian periods and squares. No report is so
+// long: only where all letters are equal every pair in range is an Abelian period, and such a word is refused.
 pub const PLACES: usize = 1 + FULL_PERIODS + BOARD + CANDIDATES;
+
+// Whether there is a report of the word: not if `check_word` refuses it, and not if it has two or more letters that are all equal.
+fn check_reported(word: &[u8]) -> Outcome
+    ensures { λ r. ⌜ r ≡ outcomeOf (reportRefusal (now (word .entry)) 0 0) ⌝ }
+{
+    if let Outcome::Refused(refusal) = check_word(word) {
+        return Outcome::Refused(refusal);
+    }
+    if word.len() >= 2 && all_equal(word) {
+        return Outcome::Refused(Refusal::OneLetter);
+    }
+    Outcome::Accepted
+}
 
 // Writes the report of the word. A slice of `PLACES` places is never too short, so that the report is counted only for a shorter one.
 pub fn report(word: &[u8], out: &mut [u32]) -> Wrote
     ensures { λ r. ⌜ answeredWrote r (now (out .exit)) ≡ reporting (now (word .entry)) (now (out .entry)) ⌝ }
 {
-    if let Outcome::Refused(refusal) = check_word(word) {
+    if let Outcome::Refused(refusal) = check_reported(word) {
         return Wrote::Refused(refusal);
     }
     if out.len() < PLACES {
@@ -43,8 +59,8 @@ pub fn report(word: &[u8], out: &mut [u32]) -> Wrote
 pub fn count_report(word: &[u8]) -> Needed
     ensures { λ r. ⌜ answeredNeeded r ≡ reportCount (now (word .entry)) ⌝ }
 {
-    if let Outcome::Refused(refusal) = check_word(word) {
-        return Needed::Refused(refusal);
+    match check_reported(word) {
+        Outcome::Refused(refusal) => Needed::Refused(refusal),
+        Outcome::Accepted => Needed::Words(words_needed(word)),
     }
-    Needed::Words(words_needed(word))
 }

@@ -13,7 +13,7 @@ ghost use mathlib.Core.Bool.{false};
 ghost use Prim.Native.Nat.{suc, _≤_};
 ghost use lib.Dec.{T};
 ghost use lib.ListN.{length};
-ghost use Rattle.abelian.specs.Words.{alphabetSize, longest, isLetter, firstOutside, ofLetters, vector};
+ghost use Rattle.abelian.specs.Words.{alphabetSize, longest, isLetter, firstOutside, ofLetters, allEqual, vector};
 ghost use Rattle.abelian.specs.Refusals.{wordRefusal};
 ghost use Rattle.abelian.specs.Answers.{outcomeOf};
 ghost use Rattle.words.specs.Prefixes.{prefixCounts};
@@ -44,6 +44,20 @@ pub fn all_letters(stretch: &[u8]) -> bool
         i += 1;
     }
     all
+}
+
+// Whether all letters of the word are equal, as they are in a word of one letter and in the empty one. For the crates above.
+pub fn all_equal(word: &[u8]) -> bool
+    ensures { λ r. ⌜ r ≡ allEqual (now (word .entry)) ⌝ }
+{
+    let mut i = 0;
+    while i < word.len() {
+        if word[i] != word[0] {
+            return false;
+        }
+        i += 1;
+    }
+    true
 }
 
 // The first position, counted from 1, that holds no letter, or 0 where there is none. The bytes may be a word or a record.

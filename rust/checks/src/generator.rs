@@ -120,9 +120,12 @@ pub fn abba(n: usize) -> Vec<u8> {
 /// A word of n letters.
 pub type Word = fn(usize) -> Vec<u8>;
 
+/// The kind of word that no report takes.
+const ONE_LETTER: &str = "one letter";
+
 /// The kinds of words on which calls are timed. The last is of all letters.
 pub const TIMED_WORDS: [(&str, Word); 7] = [
-    ("one letter", |n| vec![FIRST_LETTER; n]),
+    (ONE_LETTER, |n| vec![FIRST_LETTER; n]),
     ("two by turns", alternating),
     ("Fibonacci", fibonacci),
     ("random of 2", |n| random(n, 2)),
@@ -131,11 +134,14 @@ pub const TIMED_WORDS: [(&str, Word); 7] = [
     ("random of 26", |n| random(n, LETTERS)),
 ];
 
-/// The words on which a call is timed: these, and for runs also one that has many.
+/// The words on which a call is timed: these, for runs also one that has many, and for a report only those that it takes.
 pub fn timed_words(call: &str) -> Vec<(&'static str, Word)> {
     let mut words = TIMED_WORDS.to_vec();
     if call.ends_with("_runs") {
         words.push(("abba repeated", abba));
+    }
+    if call.contains("report") {
+        words.retain(|&(name, _)| name != ONE_LETTER);
     }
     words
 }

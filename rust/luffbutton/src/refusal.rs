@@ -30,6 +30,8 @@ pub enum Refusal {
     PatternEmpty,
     /// 9: the record has more bytes than the longest record.
     RecordTooLong,
+    /// 10: a report, or its count, of a word of two or more letters that are all equal. Every other call takes such a word.
+    OneLetter,
 }
 
 impl Refusal {
@@ -46,6 +48,7 @@ impl Refusal {
             7 => Err(Refusal::PairOutOfRange),
             8 => Err(Refusal::PatternEmpty),
             9 => Err(Refusal::RecordTooLong),
+            10 => Err(Refusal::OneLetter),
             _ => unreachable!("the library has no refusal {number}"),
         }
     }
@@ -62,6 +65,7 @@ impl Refusal {
             Refusal::PairOutOfRange => 7,
             Refusal::PatternEmpty => 8,
             Refusal::RecordTooLong => 9,
+            Refusal::OneLetter => 10,
         }
     }
 
@@ -89,6 +93,7 @@ impl fmt::Display for Refusal {
             Refusal::PairOutOfRange => write!(f, "the pair is out of range for the word"),
             Refusal::PatternEmpty => write!(f, "the pattern has no letter"),
             Refusal::RecordTooLong => write!(f, "the record has more than {LONGEST_RECORD} bytes"),
+            Refusal::OneLetter => write!(f, "all letters of the word are equal"),
         }
     }
 }

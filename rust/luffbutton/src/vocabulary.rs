@@ -32,7 +32,8 @@ pub const BOUND_RUNS: usize = 17682;
 /// The most words that a list of windows can have: a start for each letter of the longest record, where the pattern has one letter.
 pub const MOST_WINDOWS: usize = LONGEST_RECORD;
 
-/// The most words that a report can have: its head and the three lists.
+/// Places enough for the report of every word: its head and the three lists. It is a bound that no report reaches, since only a word whose
+/// letters are all equal has so many periods, and of that there is no report. The longest report we do not know.
 pub const MOST_REPORT: usize = 1 + MOST_FULL + MOST_PERIODS + MOST_SQUARES;
 
 /// The byte that takes back the last letter in a list of calls for a replay.

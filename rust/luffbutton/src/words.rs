@@ -113,17 +113,19 @@ pub fn list_runs(word: &[u8], out: &mut [u32]) -> Result<usize, Refusal> {
     written(numbers::list_runs(word, out))
 }
 
-/// Writes a report, which is its head, full periods, periods and squares, and returns how many words: refusals 1, 2, 3. The head says the
+/// Writes a report, which is its head, full periods, periods and squares, and returns how many words: refusals 1, 2, 10, 3. The head says the
 /// word's length and the [`Cover`] that [`find_cover`] answers. A slice of [`MOST_REPORT`](crate::MOST_REPORT) places or more is never too
-/// short, so that the report is not counted before it is written.
+/// short, so that the report is not counted before it is written. Of two or more letters that are all equal every pair in
+/// range is a period, and there is no report.
 ///
 /// ```
-/// use luffbutton::{findings, report, Cover, Finding};
+/// use luffbutton::{findings, report, Cover, Finding, Refusal};
 ///
 /// let mut out = [0; 16];
 /// let written = report(b"abba", &mut out).unwrap();
 /// let head = Finding::ReportHead { length: 4, cover: Cover::Length(2) };
 /// assert_eq!(findings(&out[..written]).next(), Some(head));
+/// assert_eq!(report(b"aa", &mut out), Err(Refusal::OneLetter));
 /// ```
 pub fn report(word: &[u8], out: &mut [u32]) -> Result<usize, Refusal> {
     written(numbers::report(word, out))
@@ -165,7 +167,7 @@ pub fn count_runs(word: &[u8]) -> Result<usize, Refusal> {
     counted(numbers::count_runs(word))
 }
 
-/// How many words [`report`] writes of this word, its head included, and so how many places it needs: refusals 1, 2. A report into fewer
+/// How many words [`report`] writes of this word, its head included, and so how many places it needs: refusals 1, 2, 10. A report into fewer
 /// than [`MOST_REPORT`](crate::MOST_REPORT) places counts again before it writes.
 pub fn count_report(word: &[u8]) -> Result<usize, Refusal> {
     counted(numbers::count_report(word))

@@ -1,6 +1,6 @@
 -- `report::report` meets its contract: each of its three answers is the definition's, since the count is that of the report's words, and a slice for
 -- which it is not counted has places enough. Assumes nothing.
-use mathlib.Core.Path.{_≡_, sym, ap, ap₂, _∙_}
+use mathlib.Core.Path.{_≡_, sym, ap, _∙_}
 use mathlib.Core.Logic.{⊎-elim}
 use mathlib.Core.Bool.{false}
 use mathlib.Core.Option.{none}
@@ -10,19 +10,19 @@ use native.Mathlib.Omega.{arith}
 use lib.ListN.{length}
 use borrow.Author.Needs.{needs}
 use Rattle.abelian.specs.Words.{longest}
-use Rattle.abelian.specs.Refusals.{wordRefusal}
+use Rattle.abelian.specs.Refusals.{wordRefusal, reportRefusal}
 use Rattle.abelian.specs.Trackers.{boardSize}
-use Rattle.abelian.specs.Answers.{refusing, writing}
-use Rattle.abelian.specs.Calls.{reportWords, reporting}
-use Rattle.abelian.specs.declared.Refusal.the-variants.{SliceTooShort}
+use Rattle.abelian.specs.Answers.{writing}
+use Rattle.abelian.specs.Calls.{reportWords}
 use Rattle.words.proofs.Refusals.{accepted-none, refused-some, accepted-length, accepted-letters}
-use Rattle.words.proofs.Listings.{listing-refused, listing-short, listing-written}
+use Rattle.words.proofs.Listings.{counted-short, counted-written}
 use Rattle.report.specs.Places.{longestReport}
+use Rattle.report.proofs.Refusals.{accepted-word, report-refused, report-listing}
 use Rattle.report.proofs.Lengths.{report-places}
 use Rattle.report.proofs.report.Statement.{statement}
 use Rattle.report.proofs.report.Tie as tie
 
--- what is known once the word is accepted
+-- what is known once the word is to be reported
 module _ (c : tie.After-enum-told) where
   abbrev start : tie.Start
   start = c .before .before .before .before .before
@@ -33,8 +33,11 @@ module _ (c : tie.After-enum-told) where
   abbrev out : List ℕ
   out = start .args .out .now
 
+  reported : reportRefusal w 0 0 ≡ none
+  reported = accepted-none (reportRefusal w 0 0) (sym (c .before .before .check-reported .ensures) ∙ c .enum-told .given .1)
+
   accepted : wordRefusal w false 0 0 ≡ none
-  accepted = accepted-none (wordRefusal w false 0 0) (sym (c .before .before .check-word .ensures) ∙ c .enum-told .given .1)
+  accepted = accepted-word w reported
 
 -- past both tests the slice has places enough
 fits : (c : tie.Joined1) → length (reportWords (w (c .before))) ≤ length (out (c .before))
@@ -44,21 +47,20 @@ fits c =
     ⊎-elim (λ counted. omega (arith, counted .1 .ensures, counted .2 .left))
     (λ long. omega (arith, long .left, report-places (w told) (accepted-length (w told) (accepted told)))) (c .if1 .came)
 
-check-word-requires : tie.Need-check-word-requires
-check-word-requires c κs = search needs
+check-reported-requires : tie.Need-check-reported-requires
+check-reported-requires c κs = search needs
 
 enum-known-refusal : tie.Need-enum-known-refusal
 enum-known-refusal c = search needs
 
 returns : tie.Need-returns
-unfolding reporting
 returns c =
     let at-start = c .before .before .before .before .before .before in
     let word = at-start .args .word .now in
     let r = c .before .refusal .given .0 .0 in
     sym
-    (listing-refused word (at-start .args .out .now) (reportWords word) 0 0 0
-    (refused-some (wordRefusal word false 0 0) r (sym (c .before .before .before .check-word .ensures) ∙ c .before .refusal .given .1)))
+    (report-refused word (refused-some (reportRefusal word 0 0) r (sym (c .before .before .before .check-reported .ensures) ∙ c .before .refusal .given .1))
+    (at-start .args .out .now))
 
 enum-told : tie.Need-enum-told
 enum-told c = search needs
@@ -67,12 +69,11 @@ words-needed-requires : tie.Need-words-needed-requires
 words-needed-requires c κs = let told = c .before in (accepted-letters (w told) (accepted told), accepted-length (w told) (accepted told))
 
 returns-2 : tie.Need-returns-2
-unfolding reporting
 returns-2 c =
     let told = c .before .before .before in
-    let needed = c .before .words-needed .ensures in
-    ap (λ (k : ℕ). refusing (SliceTooShort k) (out told)) needed
-    ∙ sym (listing-short (w told) (out told) (reportWords (w told)) 0 0 0 (accepted told) (omega (arith, needed, c .if2 .taken)))
+    let call = c .before .words-needed in
+    counted-short (w told) (out told) (reportWords (w told)) 0 0 0 (accepted told) (call .result) (call .ensures) (c .if2 .taken)
+    ∙ sym (report-listing (w told) (reported told) (out told))
 
 write-parts-requires : tie.Need-write-parts-requires
 write-parts-requires c κs =
@@ -83,19 +84,19 @@ same-length : tie.Need-same-length
 same-length c = search needs
 
 returns-3 : tie.Need-returns-3
-unfolding reporting
 returns-3 c =
     let call = c .before .before .write-parts in
     let joined = c .before .before .before .before in
     let told = joined .before in
-    ap₂ (λ (k : ℕ) (l : List ℕ). writing k 0 0 0 l) (call .ensures .0) (call .ensures .1)
-    ∙ sym (listing-written (w told) (out told) (reportWords (w told)) 0 0 0 (accepted told) (fits joined))
+    ap (λ (l : List ℕ). writing (call .result) 0 0 0 l) (call .ensures .1)
+    ∙ counted-written (w told) (out told) (reportWords (w told)) 0 0 0 (accepted told) (call .result) (call .ensures .0) (omega (arith, call .ensures .0, fits joined))
+    ∙ sym (report-listing (w told) (reported told) (out told))
 
 pub report-spec : {M : Type 1} → statement M
 report-spec =
     tie.close
     (tie.spec
-    check-word-requires
+    check-reported-requires
     enum-known-refusal
     returns
     enum-told

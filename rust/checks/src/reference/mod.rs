@@ -1,7 +1,7 @@
-//! A second implementation, written from document 01 and, for runs, counts, windows, the cover length and the letters, from the requests
-//! C-11, C-12, C-13, C-14 and C-16 alone, in the plainest way: every block and every window is counted anew, every definition is tried word
-//! by word, and the tracker's machine is a list of letters. It shares no route with the library, which goes by prefix counts, boards and
-//! counts that slide.
+//! A second implementation, written from document 01 and, for runs, counts, windows, the cover length, the letters and the report of equal letters,
+//! from the requests C-11, C-12, C-13, C-14, C-16 and C-17 alone, in the plainest way: every block and every window is counted anew, every
+//! definition is tried word by word, and the tracker's machine is a list of letters. It shares no route with the library, which goes by prefix
+//! counts, boards and counts that slide.
 mod covers;
 mod full_periods;
 mod periods;
@@ -17,7 +17,7 @@ pub use runs::{runs, Run};
 pub use squares::squares;
 pub use tracker::{Machine, Prefixes};
 pub use windows::windows;
-pub use words::is_letter;
+pub use words::{is_letter, is_one_letter};
 
 use crate::calls::{Answer, Calls};
 use covers::smallest_cover_length;
@@ -77,6 +77,12 @@ fn word_refusal(word: &[u8]) -> Option<Answer> {
 fn letters_refusal(bytes: &[u8]) -> Option<Answer> {
     let first_outside = bytes.iter().position(|&byte| !is_letter(byte))?;
     Some(Answer::refused(2, first_outside + 1))
+}
+
+/// The refusals of a report but 3: those of a word, and 10 behind them.
+fn report_refusal(word: &[u8]) -> Option<Answer> {
+    let one_letter = || is_one_letter(word).then(|| Answer::refused(10, 0));
+    word_refusal(word).or_else(one_letter)
 }
 
 /// Writes the words to the first places, or refuses with 3 and leaves the slice as it is.
@@ -181,7 +187,7 @@ impl Calls for Reference {
     }
 
     fn report(&self, word: &[u8], out: &mut [u32]) -> Answer {
-        list_call(word, out, report_words, |answer| answer)
+        report_refusal(word).unwrap_or_else(|| write(&report_words(word), out))
     }
 
     fn count_plain(&self, word: &[u8]) -> Answer {
@@ -209,9 +215,8 @@ impl Calls for Reference {
     }
 
     fn count_report(&self, word: &[u8]) -> Answer {
-        count_call(word, |word| {
-            1 + full_periods(word).len() + periods(word).len() + squares(word).len()
-        })
+        let words = || 1 + full_periods(word).len() + periods(word).len() + squares(word).len();
+        report_refusal(word).unwrap_or_else(|| Answer::of_words(words()))
     }
 
     fn list_windows(&self, pattern: &[u8], record: &[u8], out: &mut [u32]) -> Answer {

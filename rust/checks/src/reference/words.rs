@@ -13,6 +13,11 @@ pub fn is_letter(byte: u8) -> bool {
     letters().any(|letter| letter == byte)
 }
 
+/// Whether a word has two or more letters and all are equal.
+pub fn is_one_letter(word: &[u8]) -> bool {
+    word.len() >= 2 && word.windows(2).all(|two| two[0] == two[1])
+}
+
 /// How often the letter stands in the stretch.
 pub fn count(letter: u8, stretch: &[u8]) -> usize {
     stretch.iter().filter(|&&byte| byte == letter).count()

@@ -8,7 +8,7 @@ use crate::support::{step, tracked, words_of_each_kind, BOTH, COUNT_CALLS, LIST_
 use checks::calls::{Answer, Calls};
 use checks::generator::{abba, alternating, fibonacci, Generator};
 use checks::library::Library;
-use checks::reference::Reference;
+use checks::reference::{is_one_letter, Reference};
 use luffbutton::{FIRST_LETTER, LETTERS, LONGEST, LONGEST_RECORD};
 
 /// The counts are named after the list calls beside which they stand.
@@ -20,13 +20,13 @@ fn every_list_call_has_its_count() {
     }
 }
 
-/// The number of words of each list that the record has; those of runs have vectors of their own.
-fn due(name: &str, record: &WordRecord) -> Option<usize> {
+/// What is due of each count whose list the record has; those of runs have vectors of their own.
+fn due(name: &str, record: &WordRecord) -> Option<Answer> {
     match name {
-        "count_plain" | "count_skipping" => Some(record.periods.len()),
-        "count_full" | "count_full_scaled" => Some(record.full.len()),
-        "count_squares" => Some(record.squares.len()),
-        "count_report" => Some(record.report.len()),
+        "count_plain" | "count_skipping" => Some(Answer::of_words(record.periods.len())),
+        "count_full" | "count_full_scaled" => Some(Answer::of_words(record.full.len())),
+        "count_squares" => Some(Answer::of_words(record.squares.len())),
+        "count_report" => Some(record.report.answer),
         _ => None,
     }
 }
@@ -35,9 +35,8 @@ fn words_agree(calls: &dyn Calls) {
     for record in read().words {
         let _shown = shown(&record.word);
         for (name, count) in COUNT_CALLS {
-            if let Some(words) = due(name, &record) {
-                let answer = count(calls, &record.word);
-                assert_eq!(answer, Answer::of_words(words), "{name}");
+            if let Some(due) = due(name, &record) {
+                assert_eq!(count(calls, &record.word), due, "{name}");
             }
         }
         let counted = calls.count(&tracked(calls, &record.word));
@@ -110,24 +109,25 @@ fn vectors_of_trackers() {
     }
 }
 
-/// The numbers of document 01's marked words, of its report of abb and of C-11's example: periods, full periods, squares, words of runs,
-/// words of the report.
+/// The numbers of document 01's marked words, of its report of abb and of C-11's example: periods, full periods, squares, words of runs, and
+/// the words of the report, or its refusal.
 #[test]
 fn marked_words() {
-    let table: [(&[u8], [usize; 5]); 6] = [
-        (b"", [0, 0, 0, 0, 1]),
-        (b"a", [1, 1, 0, 0, 3]),
-        (b"aa", [2, 2, 1, 2, 6]),
-        (b"abb", [2, 1, 1, 2, 5]),
-        (b"abba", [4, 2, 2, 4, 9]),
-        (b"abaababa", [16, 1, 6, 10, 24]),
+    let table: [(&[u8], [usize; 4], Answer); 6] = [
+        (b"", [0, 0, 0, 0], Answer::of_words(1)),
+        (b"a", [1, 1, 0, 0], Answer::of_words(3)),
+        (b"aa", [2, 2, 1, 2], Answer::refused(10, 0)),
+        (b"abb", [2, 1, 1, 2], Answer::of_words(5)),
+        (b"abba", [4, 2, 2, 4], Answer::of_words(9)),
+        (b"abaababa", [16, 1, 6, 10], Answer::of_words(24)),
     ];
-    for (word, [periods, full, squares, runs, report]) in table {
+    for (word, [periods, full, squares, runs], report) in table {
         let _shown = shown(word);
-        let due = [periods, periods, full, full, squares, runs, report];
+        let lists = [periods, periods, full, full, squares, runs].map(Answer::of_words);
         for calls in BOTH {
-            for ((name, count), words) in COUNT_CALLS.into_iter().zip(due) {
-                assert_eq!(count(calls, word), Answer::of_words(words), "{name}");
+            let due = lists.into_iter().chain([report]);
+            for ((name, count), due) in COUNT_CALLS.into_iter().zip(due) {
+                assert_eq!(count(calls, word), due, "{name}");
             }
             let counted = calls.count(&tracked(calls, word));
             assert_eq!(counted, Answer::of_words(periods), "count");
@@ -135,19 +135,19 @@ fn marked_words() {
     }
 }
 
-/// Compares every count on a word with the second implementation, and holds it against the library's own list. Returns the number of the
-/// refusal, or 0.
-fn compare(word: &[u8], generator: &mut Generator) -> usize {
+/// Compares every count on a word with the second implementation, and holds it against the library's own list. The counts are refused with this
+/// number, or accepted where it is 0; but the report's is refused with 10 where the others are accepted and all letters are equal.
+fn compare(word: &[u8], number: usize, generator: &mut Generator) {
     let _shown = shown(word);
-    let mut number = 0;
     for ((_, list), (name, count)) in LIST_CALLS.into_iter().zip(COUNT_CALLS) {
         let counted = count(&Library, word);
+        let one_letter = name == "count_report" && number == 0 && is_one_letter(word);
+        let due = if one_letter { 10 } else { number };
+        assert_eq!(counted.number, due, "{name}");
         assert_eq!(counted, count(&Reference, word), "{name}");
         let list = |out: &mut [u32]| list(&Library, word, out);
         assert_count_and_list_agree(name, counted, list, generator);
-        number = counted.number;
     }
-    number
 }
 
 #[test]
@@ -156,7 +156,7 @@ fn random_words() {
     for n in (1..=40).chain([97, 121, 239, LONGEST]) {
         for k in [1, 2, 3, 5, LETTERS] {
             for word in words_of_each_kind(&mut generator, n, k) {
-                assert_eq!(compare(&word, &mut generator), 0);
+                compare(&word, 0, &mut generator);
             }
         }
     }
@@ -167,7 +167,7 @@ fn words_with_many_cycles() {
     let mut generator = seeded(121);
     for n in [0, 1, 2, 3, 4, 5, 16, 60, 120, 239, LONGEST] {
         for word in [vec![FIRST_LETTER; n], alternating(n), fibonacci(n), abba(n)] {
-            assert_eq!(compare(&word, &mut generator), 0);
+            compare(&word, 0, &mut generator);
         }
     }
 }
@@ -179,12 +179,12 @@ fn damaged_words() {
     for n in (1..=30).chain([120, 239, LONGEST, LONGEST + 1, LONGEST + 2, 256, 481, 1000]) {
         for mut word in words_of_each_kind(&mut generator, n, 3) {
             let too_long = usize::from(n > LONGEST);
-            assert_eq!(compare(&word, &mut generator), too_long);
+            compare(&word, too_long, &mut generator);
             for _ in 0..1 + generator.below(3) {
                 let at = generator.below(n);
                 word[at] = not_a_letter(&mut generator);
             }
-            assert_eq!(compare(&word, &mut generator), 2 - too_long);
+            compare(&word, 2 - too_long, &mut generator);
         }
     }
 }

@@ -286,12 +286,12 @@ fn stacks() {
     assert!(number("LUFF_STACK_LIST_WINDOWS") <= 24 * 1024);
 }
 
-/// A word of one letter has every list but that of runs at its longest.
+/// A word of one letter has every list of a word but that of runs at its longest.
 #[test]
 fn longest_lists() {
     let word = [FIRST_LETTER; LONGEST];
     type List = fn(&[u8], &mut [u32]) -> Answer;
-    let lists: [(&str, usize, List); 4] = [
+    let lists: [(&str, usize, List); 3] = [
         ("LUFF_MOST_PERIODS", MOST_PERIODS, |word, out| {
             Library.list_plain(word, out)
         }),
@@ -301,15 +301,26 @@ fn longest_lists() {
         ("LUFF_MOST_FULL", MOST_FULL, |word, out| {
             Library.list_full(word, out)
         }),
-        ("LUFF_MOST_REPORT", MOST_REPORT, |word, out| {
-            Library.report(word, out)
-        }),
     ];
     for (name, most, list) in lists {
         assert_eq!(number(name), most, "{name}");
         let answer = lent(most, |out| list(&word, out)).0;
         assert_eq!((answer.number, answer.written), (0, most), "{name}");
     }
+}
+
+/// A report has room for these three lists and its head, and none is so long: where all letters are equal there is no report.
+#[test]
+fn bound_on_reports() {
+    assert_eq!(number("LUFF_MOST_REPORT"), MOST_REPORT);
+    assert_eq!(MOST_REPORT, 1 + MOST_FULL + MOST_PERIODS + MOST_SQUARES);
+    let mut word = [FIRST_LETTER; LONGEST];
+    let refused = lent(MOST_REPORT, |out| Library.report(&word, out)).0;
+    assert_eq!(refused, Answer::refused(number("LUFF_ONE_LETTER"), 0));
+    word[LONGEST - 1] += 1;
+    let answer = lent(MOST_REPORT, |out| Library.report(&word, out)).0;
+    assert_eq!(answer, Answer::of_words(answer.written));
+    assert!((1..MOST_REPORT).contains(&answer.written));
 }
 
 /// The longest list of windows: a pattern of one letter in the longest record of that letter alone.
@@ -333,6 +344,7 @@ fn refusals_and_kinds() {
         ("LUFF_PAIR_OUT_OF_RANGE", Refusal::PairOutOfRange),
         ("LUFF_PATTERN_EMPTY", Refusal::PatternEmpty),
         ("LUFF_RECORD_TOO_LONG", Refusal::RecordTooLong),
+        ("LUFF_ONE_LETTER", Refusal::OneLetter),
     ];
     for (name, refusal) in refusals {
         assert_eq!(number(name), refusal.number(), "{name}");

@@ -2,7 +2,7 @@
 use crate::support::{lent, places_enough, seeded, shown, shown_windows};
 use checks::calls::{Answer, Calls};
 use checks::library::Library;
-use checks::reference::{self, pairs, periods, squares, Pair};
+use checks::reference::{self, is_one_letter, pairs, periods, squares, Pair};
 use luffbutton::{count_full, count_full_scaled, count_plain, count_report, count_runs};
 use luffbutton::{count_skipping, count_squares, find_cover, findings, judge, list_full};
 use luffbutton::{count_windows, list_windows, runs, Cover, Finding, Head, Period, Refusal};
@@ -75,13 +75,14 @@ fn lists() {
     }
 }
 
-/// The accepted numbers, or the refusal of a slice that is too short.
+/// The accepted numbers, or the refusal of a slice that is too short, or of a report of equal letters.
 fn due<T>(answer: Answer, accepted: T) -> Result<T, Refusal> {
     match answer.number {
         0 => Ok(accepted),
         3 => Err(Refusal::SliceTooShort {
             needed: answer.value,
         }),
+        10 => Err(Refusal::OneLetter),
         other => panic!("refusal {other}"),
     }
 }
@@ -115,6 +116,11 @@ fn counts() {
         let (word, _) = generator.cyclic(n, 3);
         let _shown = shown(&word);
         for (name, count, list) in COUNTS {
+            if name == "count_report" && is_one_letter(&word) {
+                let refused = [count(&word), list(&word, &mut [])];
+                assert_eq!(refused, [Err(Refusal::OneLetter); 2]);
+                continue;
+            }
             let needed = count(&word).expect("a word");
             assert_eq!(list(&word, &mut vec![0; needed]), Ok(needed), "{name}");
             if needed > 0 {
@@ -185,8 +191,11 @@ fn covers_of_report_heads() {
     let mut generator = seeded(85);
     let (mut covered, mut uncovered) = (0, 0);
     for n in (1..=60).chain([239, LONGEST]) {
-        for k in [1, 2, 3, LETTERS] {
+        for k in [2, 3, LETTERS] {
             for word in [generator.uniform(n, k), generator.cyclic(n, k).0] {
+                if is_one_letter(&word) {
+                    continue;
+                }
                 let _shown = shown(&word);
                 let cover = find_cover(&word).expect("a word");
                 let due = Finding::ReportHead { length: n, cover };
@@ -349,6 +358,17 @@ fn refused_windows() {
     assert_eq!(texts, due);
 }
 
+/// A word of one letter is reported, and one of two or more that are all equal is not.
+#[test]
+fn refused_reports() {
+    let mut out = [0; 3];
+    assert_eq!((count_report(b"a"), report(b"a", &mut out)), (Ok(3), Ok(3)));
+    let refused = [count_report(b"aa"), report(b"aa", &mut out)];
+    assert_eq!(refused, [Err(Refusal::OneLetter); 2]);
+    let text = "all letters of the word are equal";
+    assert_eq!(Refusal::OneLetter.to_string(), text);
+}
+
 #[test]
 fn refusals_have_their_numbers_and_values() {
     let table = [
@@ -361,6 +381,7 @@ fn refusals_have_their_numbers_and_values() {
         (Refusal::PairOutOfRange, 7, 0),
         (Refusal::PatternEmpty, 8, 0),
         (Refusal::RecordTooLong, 9, 0),
+        (Refusal::OneLetter, 10, 0),
     ];
     for (refusal, number, value) in table {
         assert_eq!((refusal.number(), refusal.value()), (number, value));

@@ -203,11 +203,13 @@ fn the_examples_of_refusals() {
 
 #[test]
 fn lengths_240_and_241() {
+    let mut word = [b'b'; 241];
+    word[0] = b'a';
     for calls in BOTH {
         for (name, call) in LIST_CALLS {
-            let passes = lent(30000, |out| call(calls, &[b'b'; 240], out)).0;
+            let passes = lent(30000, |out| call(calls, &word[..240], out)).0;
             assert_eq!(passes.number, 0, "{name}");
-            let fails = lent(30000, |out| call(calls, &[b'b'; 241], out)).0;
+            let fails = lent(30000, |out| call(calls, &word, out)).0;
             assert_eq!(fails, Answer::refused(1, 0), "{name}");
         }
     }

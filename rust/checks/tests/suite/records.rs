@@ -1,7 +1,7 @@
 //! Reads the records of wide.txt, letters.txt, runs.txt, windows.txt and reports.txt in tests/data. Lines that begin with # say how they are
 //! written.
 use checks::calls::Answer;
-use checks::reference::{pairs, Pair, Run};
+use checks::reference::{is_one_letter, pairs, Pair, Run};
 use luffbutton::{Fields, Head, Period, BOARD, LONGEST};
 use std::collections::HashMap;
 
@@ -13,6 +13,12 @@ const TEXT: &str = concat!(
 const RUNS: &str = include_str!("../data/runs.txt");
 const WINDOWS: &str = include_str!("../data/windows.txt");
 const REPORTS: &str = include_str!("../data/reports.txt");
+
+/// What a report writes and answers.
+pub struct Reported {
+    pub words: Vec<u32>,
+    pub answer: Answer,
+}
 
 /// A word with everything that document 01 defines of it, over the letters of request C-16; the report's head is that of C-14.
 pub struct WordRecord {
@@ -30,7 +36,7 @@ pub struct WordRecord {
     pub board: [u8; BOARD],
     /// The block and the letter of the judge's first failure, by head and period.
     pub failures: HashMap<(usize, usize), (usize, usize)>,
-    pub report: Vec<u32>,
+    pub report: Reported,
 }
 
 /// A word that every call refuses, with number and value.
@@ -86,10 +92,10 @@ pub struct WindowsRecord {
     pub starts: Vec<usize>,
 }
 
-/// A word and the words of its report.
+/// A word and its report.
 pub struct ReportRecord {
     pub word: Vec<u8>,
-    pub report: Vec<u32>,
+    pub report: Reported,
 }
 
 /// All records of both files, by kind.
@@ -149,6 +155,19 @@ fn output_words(numbers: &[usize]) -> Vec<u32> {
     numbers.iter().map(|&x| x as u32).collect()
 }
 
+/// What the report of a word writes and answers, from the numbers of its words. The files are from before request C-17: of two or more equal
+/// letters their line stands for refusal 10.
+fn reported(word: &[u8], numbers: &[usize]) -> Reported {
+    if is_one_letter(word) {
+        let (words, answer) = (Vec::new(), Answer::refused(10, 0));
+        return Reported { words, answer };
+    }
+    Reported {
+        words: output_words(numbers),
+        answer: Answer::of_words(numbers.len()),
+    }
+}
+
 /// A board from its entries that are not 0: head, period, entry.
 fn board(text: &str) -> [u8; BOARD] {
     let places = places();
@@ -170,8 +189,10 @@ fn word_record(lines: &[Line]) -> WordRecord {
         period: Period(x[1]),
     };
     let failure = |x: Vec<usize>| ((x[0], x[1]), (x[2], x[3]));
+    let word = word(rows["word"]);
     WordRecord {
-        word: word(rows["word"]),
+        report: reported(&word, &numbers(rows["report"])),
+        word,
         plain_trials: trials[0],
         skipping_trials: trials[1],
         s: scaled[0],
@@ -182,7 +203,6 @@ fn word_record(lines: &[Line]) -> WordRecord {
         covers: numbers(rows["cover"]),
         board: board(rows["ended"]),
         failures: parts(rows["judge"]).into_iter().map(failure).collect(),
-        report: output_words(&numbers(rows["report"])),
     }
 }
 
@@ -360,9 +380,10 @@ pub fn read_windows() -> Vec<WindowsRecord> {
 fn report_record(line: &'static str) -> ReportRecord {
     let (left, listed) = sides(line);
     let letters = left.strip_prefix("report ");
+    let word = word(letters.expect("a word and its report"));
     ReportRecord {
-        word: word(letters.expect("a word and its report")),
-        report: output_words(&listed),
+        report: reported(&word, &listed),
+        word,
     }
 }
 

@@ -26,6 +26,9 @@ fn the_files_have_their_records() {
 
 /// The words that a list call is to write, and its numbers, by the record.
 fn due_list(name: &str, record: &WordRecord) -> (Vec<u32>, Answer) {
+    if name == "report" {
+        return (record.report.words.clone(), record.report.answer);
+    }
     let word = |kind: u32, upper: usize, lower: usize| {
         kind * (1 << 28) + upper as u32 * (1 << 14) + lower as u32
     };
@@ -38,7 +41,6 @@ fn due_list(name: &str, record: &WordRecord) -> (Vec<u32>, Answer) {
             "list_plain" | "list_skipping" => periods(),
             "list_full" | "list_full_scaled" => record.full.iter().map(full).collect(),
             "list_squares" => record.squares.iter().map(square).collect(),
-            "report" => record.report.clone(),
             other => panic!("the record has no {other}"),
         },
         Answer::default(),

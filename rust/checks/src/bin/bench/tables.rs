@@ -9,7 +9,7 @@ use std::fmt::Write;
 /// All tables: a summary of the calls and one of the counts, one for each of both, the tracker's other calls, and those of windows.
 pub fn markdown(times: &Times) -> String {
     let mut text = String::new();
-    text.push_str("Geometric means over the seven words, of runs over these and `abba` repeated. Time: microseconds of the library's call. Ratio: its time divided by the peer's. `judge` is asked about the word's first Abelian period.\n\n");
+    text.push_str("Geometric means over the seven words, of runs over these and `abba` repeated, of the report over the six that are not of one letter. Time: microseconds of the library's call. Ratio: its time divided by the peer's. `judge` is asked about the word's first Abelian period.\n\n");
     summary(&mut text, "peer", &times.calls);
     text.push_str("The same of the counts, each beside the library's own list, whose words it counts. Ratio: the count's time divided by the list's.\n\n");
     summary(&mut text, "list", &times.counts);

@@ -191,8 +191,7 @@ fn print(all: &[Timed]) {
     header(&mut text, &cells);
     for timed in all {
         let mut cells = vec![format!("`{}`", timed.call)];
-        cells.extend(timed.words.iter().map(|(_, sizes)| cell(&sizes[0])));
-        cells.resize(1 + words.len(), String::new());
+        cells.extend(words.iter().map(|&(name, _)| cell_of(timed, name)));
         cells.push(ratio(timed.ratio(0, 1)));
         row(&mut text, &cells);
     }
@@ -202,6 +201,12 @@ fn print(all: &[Timed]) {
         "{text}\nGeometric mean over the calls: {}",
         ratio(over_calls)
     );
+}
+
+/// What a call took on the word of this name; nothing where it was not timed there.
+fn cell_of(timed: &Timed, name: &str) -> String {
+    let found = timed.words.iter().find(|(word, _)| word == name);
+    found.map_or_else(String::new, |(_, sizes)| cell(&sizes[0]))
 }
 
 /// The times of one word, the older archive's first, and their ratio; or the time of this archive alone.
