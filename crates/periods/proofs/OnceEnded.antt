@@ -44,6 +44,14 @@ unfolding wholeBlocks
 blocks-rise k n x p l =
     le-div-iff-mul-le p .1 (let q : (k - x .head) / x .period * x .period ≤ k - x .head = div-mul-le-self (k - x .head) (x .period) in omega arith)
 
+-- each whole block has p letters
+pub whole-length : (w : List ℕ) (x : Pair) → InRange (length w) x → (k : ℕ) → 1 ≤ k → k ≤ wholeBlocks (length w) x → length (block w x k) ≡ x .period
+unfolding block
+whole-length w x r k l m =
+    let e : suc (k - 1) ≡ k = omega arith in
+    let i : suc (k - 1) * x .period ≤ wholeBlocks (length w) x * x .period = mul-le-mul-right (x .period) (omega arith) in
+    simp (length-take, length-drop) (omega (arith, suc-mul (k - 1) (x .period), reach (length w) x (r .positive) .low, r .fits))
+
 -- ---- the conditions of a prefix
 
 module _ (v : List ℕ) (x : Pair) (k : ℕ) (t : T (ofLetters v)) (c : Conditions v x) (l : x .head + x .period ≤ k) where

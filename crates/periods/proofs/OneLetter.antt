@@ -3,11 +3,11 @@ use mathlib.Core.Path.{_≡_, refl, sym, ap, subst, _∙_}
 use mathlib.Core.Bool.{Bool, true, false}
 use mathlib.Core.Logic.{_↔_}
 use mathlib.Core.List.{List, [], _∷_, List·Memᴰ, List·Memᴰ·head, List·Memᴰ·tail, Memᴰ·append-left, Memᴰ·append-right}
-use Prim.Native.Nat.{ℕ, zero, suc, _+_, _-_, _*_, _≤_, _<_}
-use native.Mathlib.Nat.{suc-mul, mul-le-mul-right, le-div-iff-mul-le}
+use Prim.Native.Nat.{ℕ, suc, _+_, _-_, _*_, _≤_, _<_}
+use native.Mathlib.Nat.{le-div-iff-mul-le}
 use native.Mathlib.Decide.{decLt}
 use native.Mathlib.Omega.{arith}
-use lib.ListN.{length, take, drop, getD, length-take, length-drop, take-append-drop}
+use lib.ListN.{length, take, drop, getD, take-append-drop}
 use lib.Seq.{drop-cons}
 use lib.Dec.{T, eqb, eqb→eq}
 use borrow.Author.Tests.{eq-eqb}
@@ -19,7 +19,7 @@ use Rattle.abelian.proofs.Lists.{all-mem, keep-shorter, keep-whole}
 use Rattle.abelian.proofs.Counts.{vector-counts, counts-vector, counts-noneAbove, isLetter-mem, letters-inside}
 use Rattle.abelian.proofs.Pairs.{InRange, in-range, range-in, in-range-pairs}
 use Rattle.abelian.proofs.Definition1.{Alike, Conditions, period-conditions, block-length, head-length}
-use Rattle.periods.proofs.OnceEnded.{Reach, reach}
+use Rattle.periods.proofs.OnceEnded.{whole-length}
 use Rattle.periods.proofs.Kernel.{tail-short, tail-decides}
 
 -- ---- from equal letters to every pair
@@ -29,6 +29,7 @@ abbrev Only : ℕ → List ℕ → Type 0
 Only a u = (x : ℕ) → List·Memᴰ x u → x ≡ a
 
 module _ (a : ℕ) where
+  -- so is every letter of a part
   only-take : (k : ℕ) (w : List ℕ) → Only a w → Only a (take k w)
   only-take k w h x m = h x (subst (List·Memᴰ x) (take-append-drop k w) (Memᴰ·append-left (drop k w) m))
 
@@ -48,21 +49,15 @@ module _ (a : ℕ) where
       let h : count c u ≤ count c v = only-counts u v (λ z m. hu z (List·Memᴰ·tail m)) (λ z m. hv z (List·Memᴰ·tail m)) (omega arith) c in
       omega arith
 
+  -- a word of one letter and a pair in range: blocks are alike, since they are equally long, and head and tail are shorter
   module _ (w : List ℕ) (x : Pair) (t : T (ofLetters w)) (only : Only a w) (r : InRange (length w) x) where
     only-block : (k : ℕ) → Only a (block w x k)
     unfolding block
     only-block k = only-part w (x .head + (k - 1) * x .period) (x .period) only
 
-    whole-length : (k : ℕ) → 1 ≤ k → k ≤ wholeBlocks (length w) x → length (block w x k) ≡ x .period
-    unfolding block
-    whole-length k l m =
-        let e : suc (k - 1) ≡ k = omega arith in
-        let i : suc (k - 1) * x .period ≤ wholeBlocks (length w) x * x .period = mul-le-mul-right (x .period) (omega arith) in
-        simp (length-take, length-drop) (omega (arith, suc-mul (k - 1) (x .period), reach (length w) x (r .positive) .low, r .fits))
-
     blocks-alike : Alike w x
     blocks-alike k l m =
-        let e : length (block w x k) ≡ length (block w x 1) = whole-length k l m ∙ sym (block-length w x r) in
+        let e : length (block w x k) ≡ length (block w x 1) = whole-length w x r k l m ∙ sym (block-length w x r) in
         counts-vector (block w x k) (block w x 1)
         (λ c i. omega (
           arith,
@@ -93,7 +88,7 @@ every-pair w t e x r =
 
 -- ---- from the pair (0, 1) to equal letters
 
--- what passes at each place passes
+-- a test that every place's number passes
 all-at : (f : ℕ → Bool) (w : List ℕ) → ((i : ℕ) → i < length w → T (f (getD w i 0))) → T (all f w)
 all-at f [] h = tt
 all-at f (x ∷ w) h = both (f x) (all f w) (h 0 (omega arith)) (all-at f w (λ i l. h (suc i) (omega arith)))
@@ -112,6 +107,7 @@ same-letter x y m e = go (eqb x y) (vector-counts (x ∷ []) (y ∷ []) e y m)
     go true q = tt
     go false q = absurd (let o : one (eqb y y) ≡ 1 = ap one (eq-eqb y y refl) in omega arith)
 
+-- the blocks of (0, 1) are the letters
 letters-equal : (w : List ℕ) → T (ofLetters w) → ((x : Pair) → T (inRange (length w) x) → T (isPeriod w x)) → T (allEqual w)
 unfolding allEqual wholeBlocks
 letters-equal [] t h = tt
