@@ -60,8 +60,8 @@
  * words that call writes. It goes the same way as the list, but takes no places and writes nothing. It meets every refusal of the list but
  * 3. Where it is accepted, the list is accepted with as many places as it says or more, and with fewer it is refused with 3. So a caller
  * that allocates asks for the count and then makes the list. The list finds its words again, and a luff_report with just as many places
- * counts again too, and so does a luff_list_windows of more than 2,048 words, unless these places are enough for every such list. Who can
- * spare places enough (LUFF_MOST_.., LUFF_BOUND_RUNS) need not ask.
+ * counts again too, and so does a luff_list_windows of more than 2,048 words with fewer places than the record has letters. Who can spare
+ * places enough (LUFF_MOST_.., LUFF_BOUND_RUNS) need not ask.
  *
  * WHAT A CALLER OWES. No pointer is NULL, also not that of an empty word or record or of no places: pass any address of the program's, such
  * as that of a variable of the pointer's type. A pointer leads to as many bytes or places as are said, aligned as its type asks. What a

@@ -4,14 +4,14 @@ use mathlib.Core.Path.{_≡_, refl, subst}
 use mathlib.Core.Logic.{_≢_, ⊎-elim}
 use mathlib.Core.Bool.{Bool, true, false, not}
 use mathlib.Core.Option.{Option, none, some}
-use mathlib.Core.List.{List, [], _∷_, _++_}
+use mathlib.Core.List.{List, [], _∷_}
 use native.Mathlib.Omega.{arith}
 use lib.ListN.{length}
 use lib.Dec.{T, eqb, ltb}
 use borrow.Author.Tests.{lt-ltb, le-ltb, ltb-true}
 use Rattle.abelian.specs.Lists.{pick, all}
 use Rattle.abelian.specs.Words.{oneLetter}
-use Rattle.abelian.specs.Refusals.{numberOf, Condition, firstHolding, tooFewPlaces, wordConditions, wordRefusal, reportRefusal, windowConditions, windowRefusal, trackerRefusal}
+use Rattle.abelian.specs.Refusals.{numberOf, Condition, firstHolding, firstOrTooShort, wordConditions, wordRefusal, reportRefusal, windowConditions, windowRefusal, trackerRefusal}
 use Rattle.abelian.specs.Answers.{Answer, refusing, counting, unless}
 use Rattle.abelian.specs.Calls.{writingWords, listing, countWords, periodWords, fullWords, reportWords, plainListing, skippingListing, fullListing, scaledListing, squareListing, runListing, windowListing, reporting, periodCount, fullCount, squareCount, runCount, windowCount, reportCount}
 use Rattle.abelian.specs.Trials.{plainTrials, skippingTrials}
@@ -83,12 +83,12 @@ module _ (ws : List ℕ) (trials s t : ℕ) where
   -- a count that reads the conditions, and a write that reads the slice's length behind them
   conditions-as-counted : (cs : List Condition) → T (all notForLength cs)
       → WritesAsCounted (unless (firstHolding cs) [] (counting (length ws)))
-      (λ (out : List ℕ). unless (firstHolding (cs ++ (tooFewPlaces (length ws) (length out) ∷ []))) out (writingWords ws trials s t out))
+      (λ (out : List ℕ). unless (firstOrTooShort cs (length ws) (length out)) out (writingWords ws trials s t out))
   unfolding firstHolding
   conditions-as-counted [] n = accepted-counted ws trials s t _ (λ out. refl)
   conditions-as-counted (c ∷ cs) n =
       condition-more (c .holds) (c .refusal) (λ e. subst (λ (k : ℕ). T (not (eqb k 3))) e (left (notForLength c) (all notForLength cs) n)) (firstHolding cs)
-      (λ (out : List ℕ). firstHolding (cs ++ (tooFewPlaces (length ws) (length out) ∷ []))) (conditions-as-counted cs (right (notForLength c) (all notForLength cs) n))
+      (λ (out : List ℕ). firstOrTooShort cs (length ws) (length out)) (conditions-as-counted cs (right (notForLength c) (all notForLength cs) n))
 
 -- ---- a word's lists
 

@@ -97,10 +97,10 @@ windowRefusal pattern events needed places = firstOrTooShort (windowConditions p
 -- "On a tracker: 6, 2, 4, 5, 3", of a call that meets these conditions or not, and needs so many words of a slice of so many places.
 unfoldable pub trackerRefusal : Bool → Bool → Bool → Bool → ℕ → ℕ → Option Refusal
 trackerRefusal damaged notALetter full empty needed places =
-    firstHolding
+    firstOrTooShort
     (condition damaged TrackerDamaged
     ∷ condition notALetter (NotALetter 1)
     ∷ condition full TrackerFull
     ∷ condition empty TrackerEmpty
-    ∷ tooFewPlaces needed places
     ∷ [])
+    needed places

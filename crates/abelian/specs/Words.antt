@@ -41,7 +41,7 @@ firstOutside size w = outsideFrom size 1 w
 unfoldable pub ofLetters : List ℕ → Bool
 ofLetters w = eqb (firstOutside alphabetSize w) 0
 
--- C-17's "all are equal": every letter equals the first. So it is of one letter, and of none.
+-- C-17's "all are equal": every letter equals the first. True of one letter alone, and of none.
 unfoldable pub allEqual : List ℕ → Bool
 allEqual w = all (λ (x : ℕ). eqb x (getD w 0 0)) w
 

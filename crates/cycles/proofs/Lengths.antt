@@ -15,7 +15,7 @@ use Rattle.abelian.specs.declared.Refusal.{Refusal}
 use Rattle.abelian.proofs.Tests.{picked}
 use Rattle.cycles.specs.Text.{ascii, places, spaced, line}
 use Rattle.cycles.specs.Lines.{lengthLine, fullLine, periodLine, squareLine, coverLine, refusalLine}
-use Rattle.report.specs.Places.{longestReport}
+use Rattle.report.specs.Places.{reportPlaces}
 use Rattle.cycles.specs.Reports.{kindLine, lineOf, textOf, longestLine, longestText}
 use Rattle.cycles.proofs.Decimals.{length-decimal, few-places, most-places}
 
@@ -78,14 +78,14 @@ lines-short [] = omega arith
 lines-short (x ∷ xs) = omega (arith, length-append (lineOf x) (each xs lineOf), line-short x, lines-short xs, suc-mul (length xs) longestLine)
 
 -- a line for each word, and one for the cover
-pub text-short : (words : List ℕ) → length words ≤ longestReport → length (textOf words) ≤ longestText
+pub text-short : (words : List ℕ) → length words ≤ reportPlaces → length (textOf words) ≤ longestText
 unfolding textOf longestText
 text-short words h =
     let found : Bool = ltb 0 (getD words 0 0 % 2 ^ 14) in
-    let most : length words * longestLine ≤ longestReport * longestLine = mul-le-mul-right longestLine h in
-    omega (arith, length-append (each words lineOf) (coverLine found), lines-short words, cover-short found, suc-mul longestReport longestLine)
+    let most : length words * longestLine ≤ reportPlaces * longestLine = mul-le-mul-right longestLine h in
+    omega (arith, length-append (each words lineOf) (coverLine found), lines-short words, cover-short found, suc-mul reportPlaces longestLine)
 
 -- the line of a refusal: two numbers of up to 20 digits
 pub refusal-short : (r : Refusal) → length (refusalLine r) ≤ longestText
-unfolding refusalLine longestText longestReport longestLine longest boardSize
+unfolding refusalLine longestText reportPlaces longestLine longest boardSize
 refusal-short r = omega (arith, line-of-two (ascii "refused") (numberOf r) (valueOf r), most-places (numberOf r), most-places (valueOf r))

@@ -5,7 +5,7 @@ use lib.ListN.{getD}
 use lib.Dec.{eqb, ltb}
 use Rattle.abelian.specs.Lists.{pick, each}
 use Rattle.abelian.specs.Periods.{pair}
-use Rattle.report.specs.Places.{longestReport}
+use Rattle.report.specs.Places.{reportPlaces}
 use Rattle.cycles.specs.Lines.{lengthLine, fullLine, periodLine, squareLine, coverLine}
 
 -- the line of an output word's kind and parts; none for a kind that no report has
@@ -28,4 +28,4 @@ longestLine = 19
 
 -- no text of a report is longer
 unfoldable pub longestText : ℕ
-longestText = suc longestReport * longestLine
+longestText = suc reportPlaces * longestLine

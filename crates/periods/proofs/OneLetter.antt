@@ -1,4 +1,4 @@
--- What C-17's agents chase, "a report in which every pair is a cycle": all letters of a word are equal exactly where every pair in range is an Abelian period.
+-- C-17's "a report in which every pair is a cycle": all letters of a word are equal exactly where every pair in range is an Abelian period.
 use mathlib.Core.Path.{_≡_, refl, sym, ap, subst, _∙_}
 use mathlib.Core.Bool.{Bool, true, false}
 use mathlib.Core.Logic.{_↔_}

@@ -1,5 +1,5 @@
 -- The report's head: its lower part is the length that the search for a cover answers.
-use mathlib.Core.Path.{_≡_, sym, ap, _∙_}
+use mathlib.Core.Path.{_≡_, refl, sym, ap, _∙_}
 use mathlib.Core.Option.{none}
 use mathlib.Core.List.{List}
 use Prim.Native.Nat.{ℕ, _%_, _^_, _≤_, _<_}
@@ -13,10 +13,9 @@ use Rattle.abelian.specs.Answers.{Answer}
 use Rattle.abelian.specs.Calls.{coverAnswer, reportWords, reporting}
 use Rattle.abelian.proofs.Output.{lower-read}
 use Rattle.words.proofs.Refusals.{accepted-length}
-use Rattle.words.proofs.Listings.{listing-written}
 use Rattle.covers.proofs.Answers.{answer-cover}
 use Rattle.covers.proofs.Lemma4.{coverLength-le-length}
-use Rattle.report.proofs.Refusals.{accepted-word, report-listing}
+use Rattle.report.proofs.Refusals.{reported-word, report-written}
 
 module _ (w : List ℕ) (short : length w ≤ longest) where
   -- the cover length has room in the head's lower part
@@ -35,6 +34,6 @@ pub head-answers : (w out : List ℕ) → reportRefusal w 0 0 ≡ none → lengt
     → getD (reporting w out .output) 0 0 % 2 ^ 14 ≡ coverAnswer w .cover
 unfolding reportWords fill
 head-answers w out reported room =
-    let e = accepted-word w reported in
-    ap (λ (a : Answer). getD (a .output) 0 0 % 2 ^ 14) (report-listing w reported out ∙ listing-written w out (reportWords w) 0 0 0 e room)
+    let e = reported-word w reported in
+    ap (λ (a : Answer). getD (a .output) 0 0 % 2 ^ 14) (sym (report-written w reported out (length (reportWords w)) refl room))
     ∙ head-lower w (accepted-length w e) ∙ sym (answer-cover w e)

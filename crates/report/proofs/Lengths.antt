@@ -17,16 +17,15 @@ use Rattle.abelian.specs.Squares.{squareStarts, squareWords}
 use Rattle.abelian.specs.Refusals.{reportRefusal}
 use Rattle.abelian.specs.Trackers.{boardSize}
 use Rattle.abelian.specs.Calls.{fullWords, periodWords, reportWords}
-use Rattle.report.specs.Places.{longestReport}
+use Rattle.report.specs.Places.{reportPlaces}
 use Rattle.abelian.proofs.Tests.{is-false, fails, both}
 use Rattle.abelian.proofs.Lists.{all-mem, upFrom-mem, keep-shorter}
-use Rattle.words.proofs.Refusals.{accepted-length, accepted-letters}
 use Rattle.periods.proofs.PairCount.{pair-count}
 use Rattle.periods.proofs.OneLetter.{fewer-periods}
 use Rattle.board.proofs.Places.{board-length, keep-in-range}
 use Rattle.squares.specs.Marks.{startMarks, squareMarks}
 use Rattle.squares.proofs.Candidates.{fewer-words, candidates-bound}
-use Rattle.report.proofs.Refusals.{accepted-word, accepted-other}
+use Rattle.report.proofs.Refusals.{reported-letters, reported-length, accepted-other}
 
 -- lists that are each no longer are no longer together
 each-shorter : (f g : ℕ → List ℕ) (xs : List ℕ) → ((x : ℕ) → length (f x) ≤ length (g x)) → length (each xs f) ≤ length (each xs g)
@@ -82,8 +81,8 @@ module _ (w : List ℕ) where
       each-shorter (λ (q : ℕ). map (squareWord q) (squareStarts w q)) (startMarks w) (upFrom 1 (length w))
       (λ q. omega (arith, length-map (squareStarts w q) (squareWord q), fewer-words w q))
 
-  pub report-places : length w ≤ longest → length (reportWords w) ≤ longestReport
-  unfolding longestReport
+  pub report-places : length w ≤ longest → length (reportWords w) ≤ reportPlaces
+  unfolding reportPlaces
   report-places h = omega (arith, report-length, full-few h, periods-few h, squares-few, candidates-bound w h)
 
 -- ---- a bound that no report reaches
@@ -99,9 +98,6 @@ fewer-pairs n h =
     omega (arith, pair-count n)
 
 module _ (w : List ℕ) (reported : reportRefusal w 0 0 ≡ none) where
-  short : length w ≤ longest
-  short = accepted-length w (accepted-word w reported)
-
   -- of two or more letters, not all are equal
   not-all-equal : 2 ≤ length w → allEqual w ≡ false
   unfolding oneLetter
@@ -117,9 +113,11 @@ module _ (w : List ℕ) (reported : reportRefusal w 0 0 ≡ none) where
       go : Dec (length w < longest) → length (periods w) < boardSize
       go (yes h) = omega (arith, fewer-pairs (length w) h, keep-shorter (isPeriod w) (pairs (length w)))
       go (no h) =
-          let e : length w ≡ longest = omega (arith, short) in
-          omega (arith, fewer-periods w (accepted-letters w (accepted-word w reported)) (not-all-equal (omega arith)), board-length, ap (λ (n : ℕ). length (pairs n)) e)
+          let e : length w ≡ longest = omega (arith, reported-length w reported) in
+          omega (arith, fewer-periods w (reported-letters w reported) (not-all-equal (omega arith)), board-length, ap (λ (n : ℕ). length (pairs n)) e)
 
-  pub report-below : length (reportWords w) < longestReport
-  unfolding longestReport
-  report-below = omega (arith, report-length w, full-few w short, periods-fewer, squares-few w, candidates-bound w short)
+  pub report-below : length (reportWords w) < reportPlaces
+  unfolding reportPlaces
+  report-below =
+      let short : length w ≤ longest = reported-length w reported in
+      omega (arith, report-length w, full-few w short, periods-fewer, squares-few w, candidates-bound w short)

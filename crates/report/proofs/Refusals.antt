@@ -6,15 +6,18 @@ use mathlib.Core.Option.{none, some}
 use mathlib.Core.List.{List, [], _∷_}
 use Prim.Native.Nat.{ℕ, _≤_, _<_}
 use lib.ListN.{length}
-use lib.Dec.{leb}
+use lib.Dec.{T, leb}
 use borrow.Author.Tests.{le-leb, lt-leb}
-use Rattle.abelian.specs.Words.{allEqual, oneLetter}
+use Rattle.abelian.specs.Words.{longest, ofLetters, allEqual, oneLetter}
 use Rattle.abelian.specs.Refusals.{Condition, condition, firstHolding, aboveLongest, byteOutside, tooFewPlaces, wordConditions, wordRefusal, reportRefusal}
-use Rattle.abelian.specs.Answers.{refusing, counting}
+use Rattle.abelian.specs.Output.{fill}
+use Rattle.abelian.specs.Answers.{refusing, writing, counting}
 use Rattle.abelian.specs.Calls.{listing, reportWords, reporting, reportCount}
 use Rattle.abelian.specs.declared.Refusal.{Refusal}
-use Rattle.abelian.specs.declared.Refusal.the-variants.{OneLetter}
+use Rattle.abelian.specs.declared.Refusal.the-variants.{SliceTooShort, OneLetter}
 use Rattle.abelian.proofs.Refusals.{none-holds, holding-first, holding-behind}
+use Rattle.words.proofs.Refusals.{accepted-letters, accepted-length}
+use Rattle.words.proofs.Listings.{counted-short, counted-written}
 
 -- ---- the refusal of each word
 
@@ -86,15 +89,30 @@ module _ (w : List ℕ) where
     unfolding reportRefusal wordRefusal firstHolding
     as-word needed places = rw accepted-other
 
-    pub accepted-word : wordRefusal w false 0 0 ≡ none
-    accepted-word = sym (as-word 0 0) ∙ accepted
+    pub reported-word : wordRefusal w false 0 0 ≡ none
+    reported-word = sym (as-word 0 0) ∙ accepted
+
+    pub reported-letters : T (ofLetters w)
+    reported-letters = accepted-letters w reported-word
+
+    pub reported-length : length w ≤ longest
+    reported-length = accepted-length w reported-word
 
     -- the report is a list of its words
-    pub report-listing : (out : List ℕ) → reporting w out ≡ listing w out (reportWords w) 0 0 0
+    report-listing : (out : List ℕ) → listing w out (reportWords w) 0 0 0 ≡ reporting w out
     unfolding reporting listing
     report-listing out = rw (as-word (length (reportWords w)) (length out))
 
-    -- and their number is the count's answer
+    -- more words than places: the words needed, and the slice as it came
+    pub report-short : (out : List ℕ) (needed : ℕ) → needed ≡ length (reportWords w) → length out < needed → refusing (SliceTooShort needed) out ≡ reporting w out
+    report-short out needed e h = counted-short w out (reportWords w) 0 0 0 reported-word needed e h ∙ report-listing out
+
+    -- places enough: the words in the first places
+    pub report-written : (out : List ℕ) (needed : ℕ) → needed ≡ length (reportWords w) → needed ≤ length out
+        → writing needed 0 0 0 (fill (reportWords w) out) ≡ reporting w out
+    report-written out needed e h = counted-written w out (reportWords w) 0 0 0 reported-word needed e h ∙ report-listing out
+
+    -- the number of these words is the count's answer
     pub report-counted : (k : ℕ) → k ≡ length (reportWords w) → counting k ≡ reportCount w
     unfolding reportCount
     report-counted k n = rw (accepted, n)

@@ -3,7 +3,7 @@ use Prim.Native.Nat.{ℕ, _+_, _*_, _/_}
 use Rattle.abelian.specs.Words.{longest}
 use Rattle.abelian.specs.Trackers.{boardSize}
 
--- no report has more words: the head, a full period for each divisor of a length, of which no length has more than 20, and all pairs and all squares
--- of the longest word
-unfoldable pub longestReport : ℕ
-longestReport = 1 + 20 + boardSize + longest / 2 * (longest / 2)
+-- a bound that no report reaches: the head, a full period for each divisor of a length, of which no length has more than 20, and all pairs and all squares of the
+-- longest word
+unfoldable pub reportPlaces : ℕ
+reportPlaces = 1 + 20 + boardSize + longest / 2 * (longest / 2)

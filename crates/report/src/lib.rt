@@ -22,7 +22,7 @@ ghost use Rattle.abelian.specs.Calls.{reporting, reportCount};
 const FULL_PERIODS: usize = 20;
 
 // Places enough for the report of every word: one for the head, and as many as there can be full periods, Abelian periods and squares. No report is so
-// long: only where all letters are equal every pair in range is an Abelian period, and such a word is refused.
+// long: only 240 letters that are all equal have so many Abelian periods, and these are refused.
 pub const PLACES: usize = 1 + FULL_PERIODS + BOARD + CANDIDATES;
 
 // Whether there is a report of the word: not if `check_word` refuses it, and not if it has two or more letters that are all equal.

@@ -4,7 +4,7 @@ use luffbutton::{Fields, Head, Period};
 /// The numbers of any call's answer. Those that a call does not have are 0.
 #[derive(Clone, Copy, Debug, Default, PartialEq, Eq)]
 pub struct Answer {
-    /// The refusal's number in document 01's table or in request C-13, 0 where the call is accepted.
+    /// The refusal's number in document 01's table or in the requests C-13 and C-17, 0 where the call is accepted.
     pub number: usize,
     /// The refusal's value.
     pub value: usize,

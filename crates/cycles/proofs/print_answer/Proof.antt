@@ -5,7 +5,7 @@ use lib.Seq.{length-take-le}
 use borrow.Author.Needs.{needs}
 use Rattle.abelian.specs.Words.{longest}
 use Rattle.abelian.specs.Trackers.{boardSize}
-use Rattle.report.specs.Places.{longestReport}
+use Rattle.report.specs.Places.{reportPlaces}
 use Rattle.cycles.specs.Reports.{longestLine, longestText}
 use Rattle.cycles.proofs.Writing.{written-within}
 use Rattle.cycles.proofs.print_answer.Statement.{statement}
@@ -15,7 +15,7 @@ slice-aggregate-answer : tie.Need-slice-aggregate-answer
 slice-aggregate-answer c = search needs
 
 answer-requires : tie.Need-answer-requires
-unfolding longestText longestReport longestLine longest boardSize
+unfolding longestText reportPlaces longestLine longest boardSize
 answer-requires c κs = le-of-eq (slice-aggregate-answer c)
 
 array-share-prefix-text : tie.Need-array-share-prefix-text

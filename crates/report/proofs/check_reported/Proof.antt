@@ -5,6 +5,7 @@ use mathlib.Core.Bool.{false}
 use mathlib.Core.Option.{none}
 use mathlib.Core.List.{List}
 use Prim.Native.Nat.{ℕ}
+use native.Mathlib.Omega.{arith}
 use borrow.Author.Needs.{needs}
 use Rattle.abelian.specs.Refusals.{wordRefusal}
 use Rattle.abelian.specs.Answers.{outcomeOf}
@@ -41,7 +42,7 @@ returns-2 : tie.Need-returns-2
 returns-2 c =
     let several = c .before .before in
     let told = several .before in
-    ap outcomeOf (sym (equal-refused (w told) (word told) (several .if1 .taken) (sym (c .before .all-equal .ensures) ∙ c .if2 .taken)))
+    ap outcomeOf (sym (equal-refused (w told) (word told) (omega (arith, several .if1 .taken)) (sym (c .before .all-equal .ensures) ∙ c .if2 .taken)))
 
 returns-3 : tie.Need-returns-3
 returns-3 c =
@@ -49,7 +50,7 @@ returns-3 c =
     ap outcomeOf
     (sym
     (⊎-elim (λ unequal. unequal-accepted (w told) (word told) (sym (unequal .1 .ensures) ∙ unequal .2 .left))
-    (λ fewer. fewer-accepted (w told) (word told) (fewer .left)) (c .if1 .came)))
+    (λ fewer. fewer-accepted (w told) (word told) (omega (arith, fewer .left))) (c .if1 .came)))
 
 pub check-reported-spec : {M : Type 1} → statement M
 check-reported-spec =

@@ -5,8 +5,8 @@ use mathlib.Core.List.{List}
 use Prim.Native.Nat.{ℕ}
 use borrow.Author.Needs.{needs}
 use Rattle.abelian.specs.Refusals.{reportRefusal}
-use Rattle.words.proofs.Refusals.{accepted-none, refused-some, accepted-letters, accepted-length}
-use Rattle.report.proofs.Refusals.{count-refused, accepted-word, report-counted}
+use Rattle.words.proofs.Refusals.{accepted-none, refused-some}
+use Rattle.report.proofs.Refusals.{count-refused, reported-letters, reported-length, report-counted}
 use Rattle.report.proofs.count_report.Statement.{statement}
 use Rattle.report.proofs.count_report.Tie as tie
 
@@ -28,9 +28,7 @@ enum-told : tie.Need-enum-told
 enum-told c = search needs
 
 words-needed-requires : tie.Need-words-needed-requires
-words-needed-requires c κs =
-    let accepted = accepted-word (w c) (reported c) in
-    (accepted-letters (w c) accepted, accepted-length (w c) accepted)
+words-needed-requires c κs = (reported-letters (w c) (reported c), reported-length (w c) (reported c))
 
 returns : tie.Need-returns
 returns c = sym (count-refused _ (refused-some _ _ (sym (c .before .before .before .check-reported .ensures) ∙ c .before .refusal .given .1)))

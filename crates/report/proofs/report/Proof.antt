@@ -2,7 +2,6 @@
 -- which it is not counted has places enough. Assumes nothing.
 use mathlib.Core.Path.{_≡_, sym, ap, _∙_}
 use mathlib.Core.Logic.{⊎-elim}
-use mathlib.Core.Bool.{false}
 use mathlib.Core.Option.{none}
 use mathlib.Core.List.{List}
 use Prim.Native.Nat.{ℕ, _≤_}
@@ -10,14 +9,13 @@ use native.Mathlib.Omega.{arith}
 use lib.ListN.{length}
 use borrow.Author.Needs.{needs}
 use Rattle.abelian.specs.Words.{longest}
-use Rattle.abelian.specs.Refusals.{wordRefusal, reportRefusal}
+use Rattle.abelian.specs.Refusals.{reportRefusal}
 use Rattle.abelian.specs.Trackers.{boardSize}
 use Rattle.abelian.specs.Answers.{writing}
 use Rattle.abelian.specs.Calls.{reportWords}
-use Rattle.words.proofs.Refusals.{accepted-none, refused-some, accepted-length, accepted-letters}
-use Rattle.words.proofs.Listings.{counted-short, counted-written}
-use Rattle.report.specs.Places.{longestReport}
-use Rattle.report.proofs.Refusals.{accepted-word, report-refused, report-listing}
+use Rattle.words.proofs.Refusals.{accepted-none, refused-some}
+use Rattle.report.specs.Places.{reportPlaces}
+use Rattle.report.proofs.Refusals.{report-refused, reported-letters, reported-length, report-short, report-written}
 use Rattle.report.proofs.Lengths.{report-places}
 use Rattle.report.proofs.report.Statement.{statement}
 use Rattle.report.proofs.report.Tie as tie
@@ -36,16 +34,13 @@ module _ (c : tie.After-enum-told) where
   reported : reportRefusal w 0 0 ≡ none
   reported = accepted-none (reportRefusal w 0 0) (sym (c .before .before .check-reported .ensures) ∙ c .enum-told .given .1)
 
-  accepted : wordRefusal w false 0 0 ≡ none
-  accepted = accepted-word w reported
-
 -- past both tests the slice has places enough
 fits : (c : tie.Joined1) → length (reportWords (w (c .before))) ≤ length (out (c .before))
-unfolding longestReport longest boardSize
+unfolding reportPlaces longest boardSize
 fits c =
     let told = c .before in
     ⊎-elim (λ counted. omega (arith, counted .1 .ensures, counted .2 .left))
-    (λ long. omega (arith, long .left, report-places (w told) (accepted-length (w told) (accepted told)))) (c .if1 .came)
+    (λ long. omega (arith, long .left, report-places (w told) (reported-length (w told) (reported told)))) (c .if1 .came)
 
 check-reported-requires : tie.Need-check-reported-requires
 check-reported-requires c κs = search needs
@@ -66,19 +61,18 @@ enum-told : tie.Need-enum-told
 enum-told c = search needs
 
 words-needed-requires : tie.Need-words-needed-requires
-words-needed-requires c κs = let told = c .before in (accepted-letters (w told) (accepted told), accepted-length (w told) (accepted told))
+words-needed-requires c κs = let told = c .before in (reported-letters (w told) (reported told), reported-length (w told) (reported told))
 
 returns-2 : tie.Need-returns-2
 returns-2 c =
     let told = c .before .before .before in
     let call = c .before .words-needed in
-    counted-short (w told) (out told) (reportWords (w told)) 0 0 0 (accepted told) (call .result) (call .ensures) (c .if2 .taken)
-    ∙ sym (report-listing (w told) (reported told) (out told))
+    report-short (w told) (reported told) (out told) (call .result) (call .ensures) (c .if2 .taken)
 
 write-parts-requires : tie.Need-write-parts-requires
 write-parts-requires c κs =
     let told = c .before .before in
-    (accepted-letters (w told) (accepted told), (accepted-length (w told) (accepted told), fits (c .before)))
+    (reported-letters (w told) (reported told), (reported-length (w told) (reported told), fits (c .before)))
 
 same-length : tie.Need-same-length
 same-length c = search needs
@@ -89,8 +83,7 @@ returns-3 c =
     let joined = c .before .before .before .before in
     let told = joined .before in
     ap (λ (l : List ℕ). writing (call .result) 0 0 0 l) (call .ensures .1)
-    ∙ counted-written (w told) (out told) (reportWords (w told)) 0 0 0 (accepted told) (call .result) (call .ensures .0) (omega (arith, call .ensures .0, fits joined))
-    ∙ sym (report-listing (w told) (reported told) (out told))
+    ∙ report-written (w told) (reported told) (out told) (call .result) (call .ensures .0) (omega (arith, call .ensures .0, fits joined))
 
 pub report-spec : {M : Type 1} → statement M
 report-spec =

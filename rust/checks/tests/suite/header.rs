@@ -309,11 +309,11 @@ fn longest_lists() {
     }
 }
 
-/// A report has room for these three lists and its head, and none is so long: where all letters are equal there is no report.
+/// So many places have room for a head and these three lists, and no report takes them all: where all letters are equal there is none.
 #[test]
 fn bound_on_reports() {
     assert_eq!(number("LUFF_MOST_REPORT"), MOST_REPORT);
-    assert_eq!(MOST_REPORT, 1 + MOST_FULL + MOST_PERIODS + MOST_SQUARES);
+    assert_eq!(MOST_REPORT, 28941);
     let mut word = [FIRST_LETTER; LONGEST];
     let refused = lent(MOST_REPORT, |out| Library.report(&word, out)).0;
     assert_eq!(refused, Answer::refused(number("LUFF_ONE_LETTER"), 0));

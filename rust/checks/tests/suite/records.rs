@@ -1,7 +1,7 @@
 //! Reads the records of wide.txt, letters.txt, runs.txt, windows.txt and reports.txt in tests/data. Lines that begin with # say how they are
 //! written.
 use checks::calls::Answer;
-use checks::reference::{is_one_letter, pairs, Pair, Run};
+use checks::reference::{pairs, Pair, Run};
 use luffbutton::{Fields, Head, Period, BOARD, LONGEST};
 use std::collections::HashMap;
 
@@ -158,7 +158,7 @@ fn output_words(numbers: &[usize]) -> Vec<u32> {
 /// What the report of a word writes and answers, from the numbers of its words. The files are from before request C-17: of two or more equal
 /// letters their line stands for refusal 10.
 fn reported(word: &[u8], numbers: &[usize]) -> Reported {
-    if is_one_letter(word) {
+    if word.len() >= 2 && word.iter().all(|&letter| letter == word[0]) {
         let (words, answer) = (Vec::new(), Answer::refused(10, 0));
         return Reported { words, answer };
     }

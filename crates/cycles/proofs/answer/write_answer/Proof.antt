@@ -12,7 +12,7 @@ use Rattle.abelian.specs.Trackers.{boardSize}
 use Rattle.abelian.specs.Answers.{answeredWrote}
 use Rattle.abelian.specs.declared.Wrote.{Wrote}
 use Rattle.cycles.specs.Lines.{refusalLine, printed}
-use Rattle.report.specs.Places.{longestReport}
+use Rattle.report.specs.Places.{reportPlaces}
 use Rattle.cycles.proofs.Lengths.{text-short, refusal-short}
 use Rattle.cycles.proofs.Printing.{Reported, words-reported, refusal-reported}
 use Rattle.cycles.proofs.answer.write_answer.Statement.{statement}
@@ -45,7 +45,7 @@ module _ (c : tie.After-n) where
 
   -- the words are those of the report
   reported : Reported (start .args .word .now) words n
-  unfolding longestReport longest boardSize
+  unfolding reportPlaces longest boardSize
   reported =
       words-reported _ _ _ (slice-aggregate-report (wrote .before)) _
       (ap (λ (r : Wrote). answeredWrote r words) (sym (c .n .given .1)) ∙ wrote .report .ensures)
@@ -73,7 +73,7 @@ enum-known-refusal c = search needs
 
 -- the line of the refusal is what is printed
 refused : (c : tie.After-refusal) → refusalLine (c .refusal .given .0 .0) ≡ printed (c .before .before .before .before .before .before .before .args .word .now)
-unfolding longestReport longest boardSize
+unfolding reportPlaces longest boardSize
 refused c =
     let r = c .before .before .before in
     refusal-reported _ _ _ (slice-aggregate-report (r .before)) _

@@ -4,13 +4,13 @@ use native.Mathlib.Omega.{arith}
 use borrow.Author.Needs.{needs}
 use Rattle.abelian.specs.Words.{longest}
 use Rattle.abelian.specs.Trackers.{boardSize}
-use Rattle.report.specs.Places.{longestReport}
+use Rattle.report.specs.Places.{reportPlaces}
 use Rattle.report.proofs.Lengths.{parts-length, report-places}
 use Rattle.report.proofs.parts.words_needed.Statement.{statement}
 use Rattle.report.proofs.parts.words_needed.Tie as tie
 
 few : (c : tie.After-number-of-squares) → 1 + c .before .before .number-of-full-periods .result + c .before .number-of-periods .result + c .number-of-squares .result
-    ≤ longestReport
+    ≤ reportPlaces
 few c =
     let start = c .before .before .before .before in
     omega (arith, parts-length (start .args .word .now), report-places (start .args .word .now) (start .pre .1))
@@ -25,15 +25,15 @@ number-of-squares-requires : tie.Need-number-of-squares-requires
 number-of-squares-requires c κs = search needs
 
 add-result : tie.Need-add-result
-unfolding longestReport longest boardSize
+unfolding reportPlaces longest boardSize
 add-result c = omega (arith, few c)
 
 add-result-2 : tie.Need-add-result-2
-unfolding longestReport longest boardSize
+unfolding reportPlaces longest boardSize
 add-result-2 c = omega (arith, few c)
 
 add-result-3 : tie.Need-add-result-3
-unfolding longestReport longest boardSize
+unfolding reportPlaces longest boardSize
 add-result-3 c = omega (arith, few c)
 
 returns : tie.Need-returns

@@ -20,7 +20,7 @@ use Rattle.abelian.specs.Trackers.{boardSize}
 use Rattle.abelian.specs.Calls.{fullWords, periodWords, reportWords, scaledListing, skippingListing, squareListing}
 use Rattle.words.proofs.Refusals.{letters-none}
 use Rattle.words.proofs.Lists.{fill-more}
-use Rattle.report.specs.Places.{longestReport}
+use Rattle.report.specs.Places.{reportPlaces}
 use Rattle.report.proofs.Lengths.{parts-length, report-places}
 use Rattle.report.proofs.Lending.{Behind, lent, scaled-says, listed-says, wrote-says}
 use Rattle.report.proofs.parts.write_parts.Statement.{statement}
@@ -49,7 +49,7 @@ module _ (c : tie.After-head-word) where
   room : length (reportWords w) ≤ length before
   room = start .pre .1 .1
 
-  few : length (reportWords w) ≤ longestReport
+  few : length (reportWords w) ≤ reportPlaces
   few = report-places w (start .pre .1 .0)
 
   first : Behind before (head ∷ []) out₁ 1
@@ -154,11 +154,11 @@ scaled-words-requires : tie.Need-scaled-words-requires
 scaled-words-requires c κs = search needs
 
 add-periods-at : tie.Need-add-periods-at
-unfolding longestReport longest boardSize
+unfolding reportPlaces longest boardSize
 add-periods-at c = omega (arith, left₂ c, few (headed c))
 
 mul-list-skipping : tie.Need-mul-list-skipping
-unfolding longestReport longest boardSize
+unfolding reportPlaces longest boardSize
 mul-list-skipping c = omega (arith, left₂ c, few (headed c))
 
 sub-list-skipping : tie.Need-sub-list-skipping
@@ -177,11 +177,11 @@ listed-words-requires : tie.Need-listed-words-requires
 listed-words-requires c κs = search needs
 
 add-squares-at : tie.Need-add-squares-at
-unfolding longestReport longest boardSize
+unfolding reportPlaces longest boardSize
 add-squares-at c = omega (arith, left₃ c, few (top c))
 
 mul-list-squares : tie.Need-mul-list-squares
-unfolding longestReport longest boardSize
+unfolding reportPlaces longest boardSize
 mul-list-squares c = omega (arith, left₃ c, few (top c))
 
 sub-list-squares : tie.Need-sub-list-squares
@@ -200,7 +200,7 @@ wrote-words-requires : tie.Need-wrote-words-requires
 wrote-words-requires c κs = search needs
 
 add-result : tie.Need-add-result
-unfolding longestReport longest boardSize
+unfolding reportPlaces longest boardSize
 add-result c = omega (arith, fourth c .reached, few (top (listed c)))
 
 same-length : tie.Need-same-length
