@@ -328,8 +328,8 @@ struct luff_wrote luff_list_runs(const uint8_t *LUFF_RESTRICT word, size_t n, ui
 
 /*
  * A report: one word of LUFF_KIND_REPORT, then the full periods, the periods and the squares. With fewer than LUFF_MOST_REPORT places the
- * whole is counted before it is written, which takes time; with as many or more that is spared. Of two or more letters that are
- * all equal every pair in range is a period, and there is no report. Refusals, in this order: 1, 2, 10, 3.
+ * whole is counted before it is written, which takes time; with as many or more that is spared. Of two or more letters that are all equal
+ * every pair in range is a period, and there is no report. Refusals, in this order: 1, 2, 10, 3.
  */
 struct luff_wrote luff_report(const uint8_t *LUFF_RESTRICT word, size_t n, uint32_t *LUFF_RESTRICT out, size_t places);
 

@@ -115,8 +115,8 @@ pub fn list_runs(word: &[u8], out: &mut [u32]) -> Result<usize, Refusal> {
 
 /// Writes a report, which is its head, full periods, periods and squares, and returns how many words: refusals 1, 2, 10, 3. The head says the
 /// word's length and the [`Cover`] that [`find_cover`] answers. A slice of [`MOST_REPORT`](crate::MOST_REPORT) places or more is never too
-/// short, so that the report is not counted before it is written. Of two or more letters that are all equal every pair in
-/// range is a period, and there is no report.
+/// short, so that the report is not counted before it is written. Of two or more letters that are all equal every
+/// pair in range is a period, and there is no report.
 ///
 /// ```
 /// use luffbutton::{findings, report, Cover, Finding, Refusal};

@@ -64,7 +64,8 @@ fn heads(word: &[u8]) -> [usize; 2] {
     })
 }
 
-/// Of each word in the files of vectors that is reported: the report's head has the length that the search for a cover answers, or 0 where it finds none.
+/// Of each word in the files of vectors that is reported: the report's head has the length that the search for a cover answers, or 0 where it
+/// finds none.
 #[test]
 fn heads_have_the_cover_length() {
     let reported = read_reports().into_iter().map(|record| record.word);
@@ -108,10 +109,12 @@ fn one_differs(n: usize, at: usize) -> Vec<u8> {
 
 #[test]
 fn reports_of_words_with_many_cycles() {
-    for n in [2, 3, 16, 120, 239, LONGEST] {
+    for n in [0, 1, 2, 3, 16, 120, 239, LONGEST] {
         for word in [alternating(n), fibonacci(n), abba(n)] {
             compare(&word);
         }
+    }
+    for n in [2, 3, 16, 239, LONGEST] {
         for at in [0, n / 2, n - 1] {
             compare(&one_differs(n, at));
         }

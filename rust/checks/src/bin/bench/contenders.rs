@@ -1,4 +1,5 @@
-//! What is timed: the library's calls and their peers, on seven kinds of words, runs on eight, the report on six; and the counts beside their lists.
+//! What is timed: the library's calls and their peers, on seven kinds of words, runs on eight, the report on six; and the counts beside their
+//! lists.
 use checks::calls::{Answer, Calls};
 use checks::generator::{timed_words, Word, TIMED_WORDS};
 use checks::library::Library;
