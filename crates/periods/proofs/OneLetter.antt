@@ -5,7 +5,6 @@ use mathlib.Core.Logic.{_↔_}
 use mathlib.Core.List.{List, [], _∷_, List·Memᴰ, List·Memᴰ·head, List·Memᴰ·tail, Memᴰ·append-left, Memᴰ·append-right}
 use Prim.Native.Nat.{ℕ, suc, _+_, _-_, _*_, _≤_, _<_}
 use native.Mathlib.Nat.{le-div-iff-mul-le}
-use native.Mathlib.Decide.{decLt}
 use native.Mathlib.Omega.{arith}
 use lib.ListN.{length, take, drop, getD, take-append-drop}
 use lib.Seq.{drop-cons}
@@ -13,11 +12,11 @@ use lib.Dec.{T, eqb, eqb→eq}
 use borrow.Author.Tests.{eq-eqb}
 use Rattle.abelian.specs.Lists.{one, all}
 use Rattle.abelian.specs.Words.{letters, ofLetters, allEqual, count, vector, noneAbove, part}
-use Rattle.abelian.specs.Periods.{Pair, pair, inRange, headOf, block, wholeBlocks, tailOf, isPeriod, pairs, periods}
-use Rattle.abelian.proofs.Tests.{both, is-true, fails}
-use Rattle.abelian.proofs.Lists.{all-mem, keep-shorter, keep-whole}
+use Rattle.abelian.specs.Periods.{Pair, pair, inRange, headOf, block, wholeBlocks, tailOf, isPeriod}
+use Rattle.abelian.proofs.Tests.{both, is-true}
+use Rattle.abelian.proofs.Lists.{all-mem}
 use Rattle.abelian.proofs.Counts.{vector-counts, counts-vector, counts-noneAbove, isLetter-mem, letters-inside}
-use Rattle.abelian.proofs.Pairs.{InRange, in-range, range-in, in-range-pairs}
+use Rattle.abelian.proofs.Pairs.{InRange, in-range, range-in}
 use Rattle.abelian.proofs.Definition1.{Alike, Conditions, period-conditions, block-length, head-length}
 use Rattle.periods.proofs.OnceEnded.{whole-length}
 use Rattle.periods.proofs.Kernel.{tail-short, tail-decides}
@@ -126,14 +125,3 @@ letters-equal (y ∷ v) t h =
 -- of every word of letters, and so of one of two or more letters: all are equal exactly where every pair in range is an Abelian period
 pub all-equal-exactly : (w : List ℕ) → T (ofLetters w) → T (allEqual w) ↔ ((x : Pair) → T (inRange (length w) x) → T (isPeriod w x))
 all-equal-exactly w t = (every-pair w t, letters-equal w t)
-
--- so where they are not, a word has fewer Abelian periods than there are pairs
-pub fewer-periods : (w : List ℕ) → T (ofLetters w) → allEqual w ≡ false → length (periods w) < length (pairs (length w))
-unfolding periods
-fewer-periods w t e = go (decLt (length (periods w)) (length (pairs (length w))))
-  where
-    go : Dec (length (periods w) < length (pairs (length w))) → length (periods w) < length (pairs (length w))
-    go (yes l) = l
-    go (no l) =
-        let whole : T (all (isPeriod w) (pairs (length w))) = keep-whole (isPeriod w) (pairs (length w)) (omega (arith, keep-shorter (isPeriod w) (pairs (length w)))) in
-        absurd (fails (allEqual w) e (letters-equal w t (λ x r. all-mem (isPeriod w) (pairs (length w)) whole (in-range-pairs (length w) x r))))

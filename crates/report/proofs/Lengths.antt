@@ -3,13 +3,13 @@ use mathlib.Core.Path.{_≡_, ap}
 use mathlib.Core.Bool.{Bool, true, false, _&&_}
 use mathlib.Core.Option.{none}
 use mathlib.Core.List.{List, [], _∷_, _++_, map}
-use Prim.Native.Nat.{ℕ, _+_, _*_, _/_, _≤_, _<_}
-use native.Mathlib.Decide.{decLt}
+use Prim.Native.Nat.{ℕ, _+_, _≤_, _<_}
+use native.Mathlib.Decide.{decLe}
 use native.Mathlib.Omega.{arith}
 use lib.ListN.{length, length-append, length-map}
-use lib.Dec.{leb, leb→le, le→leb, ltb, ltb→lt}
+use lib.Dec.{T, leb, leb→le, le→leb}
 use Rattle.abelian.specs.Lists.{upFrom, put, keep, each}
-use Rattle.abelian.specs.Words.{longest, allEqual, oneLetter}
+use Rattle.abelian.specs.Words.{longest, ofLetters, allEqual, oneLetter}
 use Rattle.abelian.specs.Periods.{Pair, pair, inRange, pairs, isPeriod, periods}
 use Rattle.abelian.specs.Output.{periodWord, squareWord, fullWord}
 use Rattle.abelian.specs.FullPeriods.{divides, fullPeriods}
@@ -18,10 +18,10 @@ use Rattle.abelian.specs.Refusals.{reportRefusal}
 use Rattle.abelian.specs.Trackers.{boardSize}
 use Rattle.abelian.specs.Calls.{fullWords, periodWords, reportWords}
 use Rattle.report.specs.Places.{reportPlaces}
-use Rattle.abelian.proofs.Tests.{is-false, fails, both}
-use Rattle.abelian.proofs.Lists.{all-mem, upFrom-mem, keep-shorter}
-use Rattle.periods.proofs.PairCount.{pair-count}
-use Rattle.periods.proofs.OneLetter.{fewer-periods}
+use Rattle.abelian.proofs.Tests.{fails, both, left, right}
+use Rattle.abelian.proofs.Lists.{all-mem, upFrom-mem, keep-shorter, keep-whole}
+use Rattle.abelian.proofs.Pairs.{in-range, range-in, in-range-longer, in-range-pairs}
+use Rattle.periods.proofs.OneLetter.{all-equal-exactly}
 use Rattle.board.proofs.Places.{board-length, keep-in-range}
 use Rattle.squares.specs.Marks.{startMarks, squareMarks}
 use Rattle.squares.proofs.Candidates.{fewer-words, candidates-bound}
@@ -87,34 +87,42 @@ module _ (w : List ℕ) where
 
 -- ---- a bound that no report reaches
 
--- the longest word alone has as many pairs in range as a board has entries: computed of all shorter lengths
-abbrev fewerPairs : ℕ → Bool
-fewerPairs n = ltb ((n + 1) / 2 * ((n + 2) / 2)) 14520
+-- a word that has as many Abelian periods as a board has entries
+module _ (w : List ℕ) (short : length w ≤ longest) (full : boardSize ≤ length (periods w)) where
+  abbrev test : Pair → Bool
+  test x = inRange (length w) x && isPeriod w x
 
-fewer-pairs : (n : ℕ) → n < longest → length (pairs n) < boardSize
-unfolding longest boardSize
-fewer-pairs n h =
-    let l : (n + 1) / 2 * ((n + 2) / 2) < 14520 = ltb→lt _ 14520 (all-mem fewerPairs (upFrom 0 240) tt (upFrom-mem 0 240 n (omega arith) (omega arith))) in
-    omega (arith, pair-count n)
+  -- every pair in range for the longest word is one
+  every : (x : Pair) → T (inRange longest x) → T (test x)
+  unfolding periods
+  every x r =
+      let all-kept : length (keep test (pairs longest)) ≡ length (pairs longest) =
+      omega (arith, keep-shorter test (pairs longest), ap length (keep-in-range (length w) (isPeriod w) short), board-length) in
+      all-mem test (pairs longest) (keep-whole test (pairs longest) all-kept) (in-range-pairs longest x r)
+
+  -- so it is as long
+  as-long : longest ≤ length w
+  unfolding inRange longest
+  as-long = in-range (length w) (pair 0 longest) (left (inRange (length w) (pair 0 longest)) (isPeriod w (pair 0 longest)) (every (pair 0 longest) tt)) .fits
+
+  -- and all its letters are equal
+  equal-letters : T (ofLetters w) → T (allEqual w)
+  equal-letters t =
+      all-equal-exactly w t .1 (λ x r. right (inRange (length w) x) (isPeriod w x) (every x (range-in longest x (in-range-longer (in-range (length w) x r) short))))
 
 module _ (w : List ℕ) (reported : reportRefusal w 0 0 ≡ none) where
-  -- of two or more letters, not all are equal
-  not-all-equal : 2 ≤ length w → allEqual w ≡ false
-  unfolding oneLetter
-  not-all-equal h =
-      is-false (allEqual w)
-      (λ t. fails (leb 2 (length w) && allEqual w) (accepted-other w reported) (both (leb 2 (length w)) (allEqual w) (le→leb 2 (length w) h) t))
-
-  -- so some pair in range for the longest word is no Abelian period; and shorter words have fewer pairs
+  -- such a word is not reported
   periods-fewer : length (periods w) < boardSize
-  unfolding periods longest
-  periods-fewer = go (decLt (length w) longest)
+  unfolding oneLetter longest
+  periods-fewer = go (decLe boardSize (length (periods w)))
     where
-      go : Dec (length w < longest) → length (periods w) < boardSize
-      go (yes h) = omega (arith, fewer-pairs (length w) h, keep-shorter (isPeriod w) (pairs (length w)))
-      go (no h) =
-          let e : length w ≡ longest = omega (arith, reported-length w reported) in
-          omega (arith, fewer-periods w (reported-letters w reported) (not-all-equal (omega arith)), board-length, ap (λ (n : ℕ). length (pairs n)) e)
+      go : Dec (boardSize ≤ length (periods w)) → length (periods w) < boardSize
+      go (no h) = omega arith
+      go (yes full) =
+          let short = reported-length w reported in
+          absurd
+          (fails (oneLetter w) (accepted-other w reported)
+          (both (leb 2 (length w)) (allEqual w) (le→leb 2 (length w) (omega (arith, as-long w short full))) (equal-letters w short full (reported-letters w reported))))
 
   pub report-below : length (reportWords w) < reportPlaces
   unfolding reportPlaces
