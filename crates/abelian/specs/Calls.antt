@@ -1,6 +1,7 @@
 -- What each call on a word, or on a pattern and a record, answers, and what it leaves in the slice: from these and, for a list, the slice as it came.
 use Prim.Native.Nat.{ℕ}
 use mathlib.Core.Bool.{false, not}
+use mathlib.Core.Option.{Option}
 use mathlib.Core.List.{List, [], _∷_, _++_, map}
 use lib.ListN.{length}
 use lib.Dec.{eqb}
@@ -15,6 +16,7 @@ use Rattle.abelian.specs.Runs.{runWords}
 use Rattle.abelian.specs.Windows.{windowWords}
 use Rattle.abelian.specs.Covers.{coverLength}
 use Rattle.abelian.specs.Refusals.{wordRefusal, windowRefusal, reportRefusal}
+use Rattle.abelian.specs.declared.Refusal.{Refusal}
 use Rattle.abelian.specs.Answers.{Answer, writing, counting, deciding, unless}
 
 -- yes, or the first failure
@@ -30,14 +32,20 @@ judging w x = unless (wordRefusal w (not (inRange (length w) x)) 0 0) [] (firstF
 abbrev pub writingWords : List ℕ → ℕ → ℕ → ℕ → List ℕ → Answer
 writingWords ws trials s t out = writing (length ws) trials s t (fill ws out)
 
--- A list call: refusals 1, 2, 3, else the list.
-unfoldable pub listing : List ℕ → List ℕ → List ℕ → ℕ → ℕ → ℕ → Answer
-listing w out ws trials s t =
-    unless (wordRefusal w false (length ws) (length out)) out (writingWords ws trials s t out)
+-- A list call with these refusals, by the words that it needs and the places that it has; else the list.
+abbrev pub listingUnless : (ℕ → ℕ → Option Refusal) → List ℕ → ℕ → ℕ → ℕ → List ℕ → Answer
+listingUnless refusal ws trials s t out = unless (refusal (length ws) (length out)) out (writingWords ws trials s t out)
 
--- A count (C-12): "every refusal of the write but 3, in the same order", so 1, 2; else the number of the list's words.
+-- Its count (C-12): "every refusal of the write but 3, in the same order", since it needs no place; else the number of the list's words.
+abbrev pub countUnless : (ℕ → ℕ → Option Refusal) → List ℕ → Answer
+countUnless refusal ws = unless (refusal 0 0) [] (counting (length ws))
+
+-- A list call on a word: refusals 1, 2, 3; and its count.
+unfoldable pub listing : List ℕ → List ℕ → List ℕ → ℕ → ℕ → ℕ → Answer
+listing w out ws trials s t = listingUnless (wordRefusal w false) ws trials s t out
+
 unfoldable pub countWords : List ℕ → List ℕ → Answer
-countWords w ws = unless (wordRefusal w false 0 0) [] (counting (length ws))
+countWords w ws = countUnless (wordRefusal w false) ws
 
 -- the words of the Abelian periods, in pair order
 unfoldable pub periodWords : List ℕ → List ℕ
@@ -83,13 +91,12 @@ runListing w out = listing w out (runWords w) 0 0 0
 unfoldable pub runCount : List ℕ → Answer
 runCount w = countWords w (runWords w)
 
--- "Anagram windows" (C-13): refusals 1, 2, 8, 9, 2, 3, else the list; and the number of its words, with these refusals but 3.
+-- "Anagram windows" (C-13): refusals 1, 2, 8, 9, 2, 3; and their number.
 unfoldable pub windowListing : List ℕ → List ℕ → List ℕ → Answer
-windowListing pattern events out =
-    unless (windowRefusal pattern events (length (windowWords pattern events)) (length out)) out (writingWords (windowWords pattern events) 0 0 0 out)
+windowListing pattern events out = listingUnless (windowRefusal pattern events) (windowWords pattern events) 0 0 0 out
 
 unfoldable pub windowCount : List ℕ → List ℕ → Answer
-windowCount pattern events = unless (windowRefusal pattern events 0 0) [] (counting (length (windowWords pattern events)))
+windowCount pattern events = countUnless (windowRefusal pattern events) (windowWords pattern events)
 
 -- none, where the cover length is 0, or the length
 unfoldable pub noneOrLength : ℕ → Answer
@@ -103,9 +110,9 @@ coverAnswer w = unless (wordRefusal w false 0 0) [] (noneOrLength (coverLength w
 unfoldable pub reportWords : List ℕ → List ℕ
 reportWords w = reportHead (length w) (coverLength w) ∷ (fullWords w ++ (periodWords w ++ squareWords w))
 
--- Refusals 1, 2, 10 (C-17), 3, else these words; and their number, with these refusals but 3.
+-- Refusals 1, 2, 10 (C-17), 3, else these words; and their number.
 unfoldable pub reporting : List ℕ → List ℕ → Answer
-reporting w out = unless (reportRefusal w (length (reportWords w)) (length out)) out (writingWords (reportWords w) 0 0 0 out)
+reporting w out = listingUnless (reportRefusal w) (reportWords w) 0 0 0 out
 
 unfoldable pub reportCount : List ℕ → Answer
-reportCount w = unless (reportRefusal w 0 0) [] (counting (length (reportWords w)))
+reportCount w = countUnless (reportRefusal w) (reportWords w)
