@@ -21,7 +21,8 @@
  * of the (n - h) mod p letters that are left, head and tail both contained in a block. One block is enough. Of abaababa, (1, 2) is one:
  * a, then ba, ab, ab, then a. Lists of pairs go by rising p, and for one p by rising h.
  *
- * A full period is an Abelian period with h = 0 and p dividing n; p = n is one of every word but the empty one.
+ * A full period is an Abelian period with h = 0, p dividing n and p < n, so that the word has two blocks or more and nothing else. The pair
+ * (0, n) is an Abelian period of every word but the empty one, and n is no full period.
  *
  * A head length h is ruled out when some letter's count in the first h letters, doubled, exceeds its count in the word. Of the others, L(h)
  * is the largest of: h + 1; for each letter that stands in the head, c times, the position of its occurrence number 2c, less h; and half
@@ -110,7 +111,7 @@ extern "C" {
 #endif
 
 /* The version of this interface. It rises with each change of an answer or of a layout, and with each function that joins. */
-#define LUFF_VERSION 8
+#define LUFF_VERSION 9
 
 /* The byte of the first letter, a, and how many letters there are. */
 #define LUFF_FIRST_LETTER 97
@@ -124,21 +125,21 @@ extern "C" {
 #define LUFF_LONGEST_RECORD 65536
 
 /*
- * The most words that a list can have: periods, 58,080 bytes; squares, 57,600 bytes; full periods, 80 bytes; windows, 262,144 bytes, which a
+ * The most words that a list can have: periods, 58,080 bytes; squares, 57,600 bytes; full periods, 76 bytes; windows, 262,144 bytes, which a
  * pattern of one letter has in the longest record of that letter alone. With so many places no list is too long. For windows as many places
  * as the record has letters are also enough.
  */
 #define LUFF_MOST_PERIODS 14520
 #define LUFF_MOST_SQUARES 14400
-#define LUFF_MOST_FULL 20
+#define LUFF_MOST_FULL 19
 #define LUFF_MOST_WINDOWS 65536
 
 /*
- * Places enough for the report of every word, 115,764 bytes: one word, and the most periods, squares and full periods. It is a bound that no
+ * Places enough for the report of every word, 115,760 bytes: one word, and the most periods, squares and full periods. It is a bound that no
  * report reaches, since only a word whose letters are all equal has so many periods, and that is refused with 10. The longest report is not
  * known.
  */
-#define LUFF_MOST_REPORT 28941
+#define LUFF_MOST_REPORT 28940
 
 /*
  * Places enough for the runs of every word, 70,728 bytes: no two runs of one d start d letters apart, and each is two words. It is a

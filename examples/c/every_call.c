@@ -197,7 +197,7 @@ int main(void)
     find_cover("aBc");
     find_cover("az{");
     report("abb", PLACES);
-    report("abb", 4);
+    report("abb", 3);
     report("abba", PLACES);
     report("a", PLACES);
     report("aa", PLACES);

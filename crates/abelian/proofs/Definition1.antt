@@ -90,7 +90,7 @@ blocks-rest w x i (suc m) =
     rw (e, append-assoc, blocks-rest w x (suc i) m) (block-rest w x i)
 
 -- the word is its head, its blocks and its tail
-word-split : (w : List ℕ) (x : Pair) (k : ℕ) → wholeBlocks (length w) x ≡ suc k → w ≡ headOf w x ++ (block w x 1 ++ (join (map (block w x) (upFrom 2 k)) ++ tailOf w x))
+pub word-split : (w : List ℕ) (x : Pair) (k : ℕ) → wholeBlocks (length w) x ≡ suc k → w ≡ headOf w x ++ (block w x 1 ++ (join (map (block w x) (upFrom 2 k)) ++ tailOf w x))
 unfolding headOf tailOf
 word-split w x k e =
     let z : x .head + 0 * x .period ≡ x .head = omega arith in
@@ -140,11 +140,10 @@ period-definition w x p =
 -- ---- from the record to the test
 
 -- all of one length
-Sized : ℕ → List (List ℕ) → Type 0
+abbrev pub Sized : ℕ → List (List ℕ) → Type 0
 Sized p bs = (u : List ℕ) → List·Memᴰ u bs → length u ≡ p
 
-length-join : (p : ℕ) (bs : List (List ℕ)) → Sized p bs → length (join bs) ≡ length bs * p
-unfolding Sized
+pub length-join : (p : ℕ) (bs : List (List ℕ)) → Sized p bs → length (join bs) ≡ length bs * p
 length-join p [] s = omega arith
 length-join p (b ∷ bs) s =
     let e : length b ≡ p = s b (List·Memᴰ·head refl) in
@@ -153,7 +152,6 @@ length-join p (b ∷ bs) s =
 
 -- of stretches of p letters, one behind the other, the one at place j begins after j * p letters
 joined-at : (p : ℕ) (bs : List (List ℕ)) (v : List ℕ) (j : ℕ) → Sized p bs → j < length bs → take p (drop (j * p) (join bs ++ v)) ≡ getD bs j []
-unfolding Sized
 joined-at p [] v j s l = absurd (omega arith)
 joined-at p (b ∷ bs) v zero s l =
     let z : 0 * p ≡ 0 = omega arith in
@@ -198,14 +196,13 @@ mem-getD [] k l = absurd (omega arith)
 mem-getD (b ∷ bs) zero l = List·Memᴰ·head refl
 mem-getD (b ∷ bs) (suc k) l = List·Memᴰ·tail (mem-getD bs k (omega arith))
 
-letters-join : (bs : List (List ℕ)) (u : List ℕ) → T (ofLetters (join bs)) → List·Memᴰ u bs → T (ofLetters u)
+pub letters-join : (bs : List (List ℕ)) (u : List ℕ) → T (ofLetters (join bs)) → List·Memᴰ u bs → T (ofLetters u)
 letters-join [] u t m = absurd (List·Memᴰ·not-nil m)
 letters-join (b ∷ bs) u t m =
     ⊎-elim (λ (q : u ≡ b). subst (λ (l : List ℕ). T (ofLetters l)) (sym q) (letters-left b (join bs) t))
     (letters-join bs u (letters-right b (join bs) t)) (List·Memᴰ·cases-cons m)
 
 pub definition-period : (w : List ℕ) (x : Pair) → T (ofLetters w) → AbelianPeriod w x → T (isPeriod w x)
-unfolding Sized
 definition-period w x t d =
     let bs : List (List ℕ) = d .first ∷ d .others in
     let u : List ℕ = d .head in

@@ -6,7 +6,7 @@ use Rattle.abelian.specs.Words.{alphabetSize, firstLetter, longest, lett
 use Rattle.abelian.specs.Periods.{inRange, heads, row, pairs, headOf, block, wholeBlocks, tailOf, isPeriod, periods}
 use Rattle.abelian.specs.Output.{outputWord, periodWord, squareWord, fullWord, runWord, handsWord, windowWord, reportHead, fill}
 use Rattle.abelian.specs.Trials.{plainTrials, ruledOut, occurrence, distance, greatestGap, occurrenceBound, lowestTried, isCandidate, candidates, skippingTrials}
-use Rattle.abelian.specs.FullPeriods.{divides, fullPeriods, countDivisor, scale, isScaled, scaledPositions, distances, scaledGap}
+use Rattle.abelian.specs.FullPeriods.{divides, properDivisor, isFull, fullPeriods, countDivisor, scale, isScaled, scaledPositions, distances, scaledGap}
 use Rattle.abelian.specs.EndedLengths.{endedLength, boardOf}
 use Rattle.abelian.specs.Judge.{blockAt, isEnd, breaks, failures}
 use Rattle.abelian.specs.Squares.{isSquare, squareStarts, squareWords}
@@ -21,5 +21,5 @@ use Rattle.abelian.specs.Marked.{entryOf, numbers, sameAnswer, refusal, 
 
 -- P1 to P11 of document 01, the rows for clauses that these leave untried, and those of document 02.
 pub marked-words : T (all rowHolds marked && all rowHolds more && all rowHolds requested)
-unfolding alphabetSize firstLetter longest letters isLetter outsideFrom firstOutside ofLetters allEqual oneLetter count vector noneAbove contained inRange heads row pairs headOf block wholeBlocks tailOf isPeriod periods outputWord periodWord squareWord fullWord runWord handsWord windowWord reportHead fill plainTrials ruledOut occurrence distance greatestGap occurrenceBound lowestTried isCandidate candidates skippingTrials divides fullPeriods countDivisor scale isScaled scaledPositions distances scaledGap endedLength boardOf blockAt isEnd breaks failures isSquare squareStarts squareWords most goesBack runStarts repeats runEnd leftFits rightFits leftHand rightHand runAt runs wordsOfRun runWords longestRecord isWindow windowStarts windowWords within isCoverLength coverLength firstHolding wordRefusal reportRefusal windowRefusal trackerRefusal firstFailure judging listing periodWords fullWords plainListing skippingListing fullListing scaledListing squareListing runListing noneOrLength coverAnswer reportWords reporting countWords periodCount fullCount squareCount runCount windowListing windowCount reportCount boardSize freshTracker damagedBytes damaged entries pairsWhere stepUnless entryAdded added adding shortened takingBack clearing openPairs trackerListing trackerCount entryOf numbers sameAnswer refusal rowHolds marked more requested
+unfolding alphabetSize firstLetter longest letters isLetter outsideFrom firstOutside ofLetters allEqual oneLetter count vector noneAbove contained inRange heads row pairs headOf block wholeBlocks tailOf isPeriod periods outputWord periodWord squareWord fullWord runWord handsWord windowWord reportHead fill plainTrials ruledOut occurrence distance greatestGap occurrenceBound lowestTried isCandidate candidates skippingTrials divides properDivisor isFull fullPeriods countDivisor scale isScaled scaledPositions distances scaledGap endedLength boardOf blockAt isEnd breaks failures isSquare squareStarts squareWords most goesBack runStarts repeats runEnd leftFits rightFits leftHand rightHand runAt runs wordsOfRun runWords longestRecord isWindow windowStarts windowWords within isCoverLength coverLength firstHolding wordRefusal reportRefusal windowRefusal trackerRefusal firstFailure judging listing periodWords fullWords plainListing skippingListing fullListing scaledListing squareListing runListing noneOrLength coverAnswer reportWords reporting countWords periodCount fullCount squareCount runCount windowListing windowCount reportCount boardSize freshTracker damagedBytes damaged entries pairsWhere stepUnless entryAdded added adding shortened takingBack clearing openPairs trackerListing trackerCount entryOf numbers sameAnswer refusal rowHolds marked more requested
 marked-words = tt

@@ -1,10 +1,11 @@
 -- Full periods, and the numbers that the scaled path answers.
-use Prim.Native.Nat.{ℕ, suc, _-_, _*_, _/_, _%_}
+use Prim.Native.Nat.{ℕ, suc, _-_, _*_, _/_, _%_, _≤_}
+use mathlib.Core.Path.{_≡_}
 use mathlib.Core.Bool.{Bool, _&&_}
-use mathlib.Core.List.{List, [], _∷_}
+use mathlib.Core.List.{List, [], _∷_, _++_, List·Memᴰ}
 use lib.ListN.{length, take}
-use lib.Dec.{eqb}
-use Rattle.abelian.specs.Lists.{upFrom, largest, keep, all}
+use lib.Dec.{eqb, ltb}
+use Rattle.abelian.specs.Lists.{upFrom, largest, keep, all, join}
 use Rattle.abelian.specs.Words.{letters, count, vector}
 use Rattle.abelian.specs.Periods.{pair, isPeriod}
 
@@ -12,9 +13,28 @@ use Rattle.abelian.specs.Periods.{pair, isPeriod}
 unfoldable pub divides : ℕ → ℕ → Bool
 divides d n = eqb (n % d) 0
 
--- "Full period": an Abelian period with h = 0 and p dividing n; p = n counts. By rising p.
+-- d divides n and is smaller
+unfoldable pub properDivisor : ℕ → ℕ → Bool
+properDivisor d n = divides d n && ltb d n
+
+-- "Full period": an Abelian period with h = 0 and p dividing n; and by C-18 "a full period is smaller than n".
+unfoldable pub isFull : List ℕ → ℕ → Bool
+isFull w p = properDivisor p (length w) && isPeriod w (pair 0 p)
+
+-- The full periods of a word, by rising p.
 unfoldable pub fullPeriods : List ℕ → List ℕ
-fullPeriods w = keep (λ (p : ℕ). divides p (length w) && isPeriod w (pair 0 p)) (upFrom 1 (length w))
+fullPeriods w = keep (isFull w) (upFrom 1 (length w))
+
+-- Document 003's full Abelian period, of a word of letters: the word is u₁ u₂ .. uₖ with k ≥ 2, the vectors of all are equal, and |u₁| = p, which is not 0. Here `first` is u₁,
+-- `second` is u₂, and `others` are u₃ to uₖ.
+pub record FullPeriod (w : List ℕ) (p : ℕ) : Type 0 where
+  pub first : List ℕ
+  pub second : List ℕ
+  pub others : List (List ℕ)
+  pub whole : w ≡ first ++ (second ++ join others)
+  pub equal : (u : List ℕ) → List·Memᴰ u (second ∷ others) → vector u ≡ vector first
+  pub periodLength : length first ≡ p
+  pub positive : 1 ≤ p
 
 -- "g": the greatest common divisor of the letter counts; 0 for the empty word, which has no letter.
 unfoldable pub countDivisor : List ℕ → ℕ

@@ -141,14 +141,14 @@ back t = takingBack t .tracker
 abbrev given : Tracker
 given = then (then (then freshTracker a) b) b
 
--- P1 to P11 of document 01; of the two cover lengths that P5 leaves free, C-14 takes 2.
+-- P1 to P11 of document 01; of the two cover lengths that P5 leaves free, C-14 takes 2, and from the full periods of P3 and P6 C-18 drops p = n.
 unfoldable pub marked : List Row
 marked =
     -- P1, P2, P3, P4
     periodsAre [] []
     ∷ periodsAre (a ∷ []) (pair 0 1 ∷ [])
     ∷ periodsAre (a ∷ a ∷ []) (pair 0 1 ∷ pair 0 2 ∷ [])
-    ∷ fullAre (a ∷ a ∷ []) (1 ∷ 2 ∷ [])
+    ∷ fullAre (a ∷ a ∷ []) (1 ∷ [])
     ∷ periodsAre (a ∷ b ∷ []) (pair 0 2 ∷ [])
     ∷ coverIs (a ∷ b ∷ []) 0
     -- P5
@@ -157,7 +157,7 @@ marked =
     ∷ coverIs abba 2
     ∷ scaledBy abba 2 1
     -- P6, P7
-    ∷ fullAre (a ∷ a ∷ b ∷ b ∷ []) (4 ∷ [])
+    ∷ fullAre (a ∷ a ∷ b ∷ b ∷ []) []
     ∷ scaledBy (a ∷ a ∷ b ∷ b ∷ []) 2 2
     ∷ coverIs (a ∷ a ∷ a ∷ b ∷ []) 0
     -- P8
@@ -195,15 +195,14 @@ more =
     ∷ judgedNo abb (pair 1 2) 0 a
     ∷ judgedNo (a ∷ a ∷ b ∷ []) (pair 0 2) 2 b
     -- the report
-    ∷ reportIs abb (2147532800 ∷ 805355521 ∷ 268468224 ∷ 268484608 ∷ 536887298 ∷ [])
+    ∷ reportIs abb (2147532800 ∷ 268468224 ∷ 268484608 ∷ 536887298 ∷ [])
     -- each answer's numbers; an accepted list keeps the places behind it
     ∷ writes (plainListing abb (5 ∷ 6 ∷ 7 ∷ [])) 2 4 0 0 (268468224 ∷ 268484608 ∷ 7 ∷ [])
     ∷ writes (skippingListing abb (5 ∷ 6 ∷ [])) 2 3 0 0 (268468224 ∷ 268484608 ∷ [])
-    ∷ writes (fullListing (a ∷ a ∷ []) (5 ∷ 6 ∷ 7 ∷ [])) 2 0 0 0 (805322754 ∷ 805339137 ∷ 7 ∷ [])
-    ∷ writes (scaledListing abba (5 ∷ 6 ∷ 7 ∷ [])) 2 0 2 1 (805339138 ∷ 805371905 ∷ 7 ∷ [])
+    ∷ writes (fullListing (a ∷ a ∷ []) (5 ∷ 6 ∷ 7 ∷ [])) 1 0 0 0 (805322754 ∷ 6 ∷ 7 ∷ [])
+    ∷ writes (scaledListing abba (5 ∷ 6 ∷ 7 ∷ [])) 1 0 2 1 (805339138 ∷ 6 ∷ 7 ∷ [])
     ∷ writes (squareListing abba (5 ∷ 6 ∷ 7 ∷ [])) 2 0 0 0 (536887298 ∷ 536903681 ∷ 7 ∷ [])
-    ∷ writes (reporting abb (5 ∷ 6 ∷ 7 ∷ 8 ∷ 9 ∷ 10 ∷ [])) 5 0 0 0
-    (2147532800 ∷ 805355521 ∷ 268468224 ∷ 268484608 ∷ 536887298 ∷ 10 ∷ [])
+    ∷ writes (reporting abb (5 ∷ 6 ∷ 7 ∷ 8 ∷ 9 ∷ 10 ∷ [])) 4 0 0 0 (2147532800 ∷ 268468224 ∷ 268484608 ∷ 536887298 ∷ 9 ∷ 10 ∷ [])
     -- the table of refusals: each with its example, the slice as it came, and those that come before others
     ∷ refuses (coverAnswer (replicate 241 a)) 1 0 []
     ∷ refuses (coverAnswer (B ∷ replicate 240 a)) 1 0 []
@@ -298,10 +297,10 @@ requested =
     ∷ refuses (runListing ababa (5 ∷ 6 ∷ 7 ∷ [])) 3 4 (5 ∷ 6 ∷ 7 ∷ [])
     -- C-12: the words of each list, of runs two each; those of an empty one
     ∷ counts (periodCount abab) 5
-    ∷ counts (fullCount abab) 2
+    ∷ counts (fullCount abab) 1
     ∷ counts (squareCount abab) 1
     ∷ counts (runCount ababa) 4
-    ∷ counts (reportCount abb) 5
+    ∷ counts (reportCount abb) 4
     ∷ counts (reportCount []) 1
     ∷ counts (periodCount []) 0
     -- refused as the write is, but never for length
@@ -348,14 +347,14 @@ requested =
     ∷ coverIs (c ∷ (beyond - 1) ∷ []) 0
     ∷ coverIs (a ∷ a ∷ a ∷ a ∷ b ∷ []) 0
     -- the report's head has that length; that of the empty word is the whole report
-    ∷ reportIs abba (2147549186 ∷ 805339138 ∷ 805371905 ∷ 268468224 ∷ 268484608 ∷ 268484609 ∷ 268500992 ∷ 536887298 ∷ 536903681 ∷ [])
+    ∷ reportIs abba (2147549186 ∷ 805339138 ∷ 268468224 ∷ 268484608 ∷ 268484609 ∷ 268500992 ∷ 536887298 ∷ 536903681 ∷ [])
     ∷ reportIs abbaba
-    (2147581956 ∷ 805339139 ∷ 805404673 ∷ 268468224 ∷ 268484609 ∷ 268484610 ∷ 268500992 ∷ 268500993 ∷ 268500994 ∷ 268517376 ∷ 268517377
+    (2147581956 ∷ 805339139 ∷ 268468224 ∷ 268484609 ∷ 268484610 ∷ 268500992 ∷ 268500993 ∷ 268500994 ∷ 268517376 ∷ 268517377
     ∷ 268533760 ∷ 536887298 ∷ 536903681 ∷ 536903683 ∷ [])
     ∷ reportIs [] (2147483648 ∷ [])
     -- C-16: `aqa` is read; 97 and 122 pass, 96 and 123 do not
     ∷ periodsAre aqa (pair 0 2 ∷ pair 1 2 ∷ pair 0 3 ∷ [])
-    ∷ reportIs aqa (2147532802 ∷ 805355521 ∷ 268468224 ∷ 268468225 ∷ 268484608 ∷ [])
+    ∷ reportIs aqa (2147532802 ∷ 268468224 ∷ 268468225 ∷ 268484608 ∷ [])
     ∷ tracks (then (then freshTracker a) z) (a ∷ z ∷ 0 ∷ []) (pair 0 1) 2 (pair 0 2 ∷ [])
     ∷ refuses (adding freshTracker 96 .answer) 2 1 []
     ∷ refuses (adding freshTracker 123 .answer) 2 1 []
@@ -382,14 +381,14 @@ requested =
     ∷ refuses (reportCount aa) 10 0 []
     ∷ refuses (reportCount (z ∷ z ∷ z ∷ [])) 10 0 []
     ∷ refuses (reportCount (replicate 240 b)) 10 0 []
-    ∷ writes (reporting (a ∷ []) (5 ∷ 6 ∷ 7 ∷ 8 ∷ [])) 3 0 0 0 (2147500032 ∷ 805322753 ∷ 268451840 ∷ 8 ∷ [])
-    ∷ counts (reportCount (a ∷ [])) 3
+    ∷ writes (reporting (a ∷ []) (5 ∷ 6 ∷ 7 ∷ 8 ∷ [])) 2 0 0 0 (2147500032 ∷ 268451840 ∷ 7 ∷ 8 ∷ [])
+    ∷ counts (reportCount (a ∷ [])) 2
     ∷ writes (reporting [] (5 ∷ [])) 1 0 0 0 (2147483648 ∷ [])
     -- one that differs, wherever it stands, is enough for a report
-    ∷ counts (reportCount (b ∷ a ∷ a ∷ [])) 5
-    ∷ counts (reportCount (a ∷ b ∷ a ∷ [])) 5
-    ∷ counts (reportCount (a ∷ a ∷ b ∷ [])) 5
-    ∷ counts (reportCount (a ∷ a ∷ a ∷ a ∷ b ∷ [])) 9
+    ∷ counts (reportCount (b ∷ a ∷ a ∷ [])) 4
+    ∷ counts (reportCount (a ∷ b ∷ a ∷ [])) 4
+    ∷ counts (reportCount (a ∷ a ∷ b ∷ [])) 4
+    ∷ counts (reportCount (a ∷ a ∷ a ∷ a ∷ b ∷ [])) 8
     -- behind 1 and 2, and before 3
     ∷ refuses (reportCount (replicate 241 a)) 1 0 []
     ∷ refuses (reportCount (B ∷ B ∷ [])) 2 1 []
@@ -399,11 +398,29 @@ requested =
     ∷ judgedYes aa (pair 0 1)
     ∷ writes (plainListing aa (5 ∷ 6 ∷ [])) 2 2 0 0 (268451840 ∷ 268468224 ∷ [])
     ∷ writes (skippingListing aa (5 ∷ 6 ∷ [])) 2 2 0 0 (268451840 ∷ 268468224 ∷ [])
-    ∷ writes (scaledListing aa (5 ∷ 6 ∷ [])) 2 0 1 1 (805322754 ∷ 805339137 ∷ [])
+    ∷ writes (scaledListing aa (5 ∷ 6 ∷ [])) 1 0 1 1 (805322754 ∷ 6 ∷ [])
     ∷ writes (squareListing aa (5 ∷ [])) 1 0 0 0 (536887297 ∷ [])
     ∷ writes (runListing aa (5 ∷ 6 ∷ [])) 2 0 0 0 (1342193665 ∷ 1610743808 ∷ [])
     ∷ counts (periodCount aa) 2
     ∷ counts (windowCount aa (a ∷ a ∷ a ∷ [])) 2
     ∷ coverIs aa 1
     ∷ tracks (then (then freshTracker a) a) (a ∷ a ∷ 0 ∷ []) (pair 0 1) 0 (pair 0 1 ∷ pair 0 2 ∷ [])
+    -- C-18: the length is no full period, and half of it may be one, alone or behind others
+    ∷ fullAre [] []
+    ∷ fullAre (a ∷ []) []
+    ∷ fullAre abb []
+    ∷ fullAre abab (2 ∷ [])
+    ∷ fullAre (a ∷ a ∷ b ∷ a ∷ a ∷ b ∷ []) (3 ∷ [])
+    ∷ fullAre (a ∷ b ∷ b ∷ a ∷ a ∷ b ∷ b ∷ a ∷ []) (2 ∷ 4 ∷ [])
+    -- a list of none needs no place, its count is 0, and s and T are as they were
+    ∷ writes (fullListing abb []) 0 0 0 0 []
+    ∷ writes (scaledListing abb []) 0 0 3 1 []
+    ∷ writes (scaledListing (a ∷ a ∷ b ∷ b ∷ []) (5 ∷ [])) 0 0 2 2 (5 ∷ [])
+    ∷ counts (fullCount abb) 0
+    ∷ refuses (scaledListing (a ∷ a ∷ a ∷ a ∷ []) (5 ∷ [])) 3 2 (5 ∷ [])
+    -- the report has no full period more than the list
+    ∷ reportIs abab (2147549186 ∷ 805339138 ∷ 268468224 ∷ 268468225 ∷ 268484608 ∷ 268484609 ∷ 268500992 ∷ 536903681 ∷ [])
+    -- the pair of head 0 and the length remains an Abelian period
+    ∷ periodsAre abb (pair 0 2 ∷ pair 0 3 ∷ [])
+    ∷ judgedYes abb (pair 0 3)
     ∷ []

@@ -1,17 +1,17 @@
--- Laws of divisors: Euclid's algorithm, the greatest common divisor of a list, and multiples of vectors.
+-- Laws of divisors: the tests, Euclid's algorithm, and the greatest common divisor of a list.
 use mathlib.Core.Path.{_≡_, refl, sym, subst}
 use mathlib.Core.Logic.{⊎-elim}
 use mathlib.Core.List.{List, [], _∷_, _++_, List·Memᴰ·head, List·Memᴰ·tail, List·Memᴰ·cases-cons, List·Memᴰ·append-cases, Memᴰ·append-left, Memᴰ·append-right, List·Memᴰ·not-nil, List·Memᴰ·eq-of-singleton}
 use Prim.Native.Nat.{ℕ, zero, suc, _%_, _≤_, _<_, _∣_}
 use native.Mathlib.Nat.{dvd-refl, dvd-zero, dvd-trans, dvd-mod-iff, dvd-antisymm, mod-lt, mod-eq-zero-of-dvd, dvd-of-mod-eq-zero, eq-zero-or-pos}
 use native.Mathlib.Omega.{arith}
-use lib.Dec.{T, eqb, eqb→eq}
+use lib.Dec.{T, eqb, ltb, eqb→eq, leb→le, le→leb}
 use borrow.Author.Tests.{eq-eqb}
-use Rattle.abelian.specs.FullPeriods.{divides}
-use Rattle.abelian.proofs.Tests.{passes}
+use Rattle.abelian.specs.FullPeriods.{divides, properDivisor}
+use Rattle.abelian.proofs.Tests.{passes, both, left, right}
 use Rattle.full_periods.specs.Divisors.{GreatestDivisor}
 
--- ---- the test
+-- ---- the tests
 
 -- the test of a divisor passes exactly where it divides
 pub divides-dvd : (d n : ℕ) → T (divides d n) → d ∣ n
@@ -21,6 +21,19 @@ divides-dvd d n t = dvd-of-mod-eq-zero d (eqb→eq (n % d) 0 t)
 pub dvd-divides : (d n : ℕ) → d ∣ n → T (divides d n)
 unfolding divides
 dvd-divides d n h = passes (eqb (n % d) 0) (eq-eqb (n % d) 0 (mod-eq-zero-of-dvd d h))
+
+-- that of a proper one where it is also smaller
+pub proper-dvd : (d n : ℕ) → T (properDivisor d n) → d ∣ n
+unfolding properDivisor
+proper-dvd d n t = divides-dvd d n (left (divides d n) (ltb d n) t)
+
+pub proper-below : (d n : ℕ) → T (properDivisor d n) → d < n
+unfolding properDivisor
+proper-below d n t = leb→le (suc d) n (right (divides d n) (ltb d n) t)
+
+pub dvd-proper : (d n : ℕ) → d ∣ n → d < n → T (properDivisor d n)
+unfolding properDivisor
+dvd-proper d n h l = both (divides d n) (ltb d n) (dvd-divides d n h) (le→leb (suc d) n l)
 
 -- ---- Euclid's algorithm
 

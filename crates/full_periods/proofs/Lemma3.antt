@@ -12,11 +12,10 @@ use lib.Dec.{T, eqb, eqb→eq}
 use borrow.Author.Tests.{eq-eqb}
 use Rattle.abelian.specs.Lists.{upFrom, sum, keep, all, largest}
 use Rattle.abelian.specs.Words.{letters, ofLetters, count, vector, part}
-use Rattle.abelian.specs.FullPeriods.{divides, countDivisor, scale, isScaled}
+use Rattle.abelian.specs.FullPeriods.{divides, isFull, countDivisor, scale, isScaled}
 use Rattle.abelian.proofs.Tests.{passes, both, left, right}
 use Rattle.abelian.proofs.Lists.{mem-keep, keep-mem, all-mem, mem-all, upFrom-mem, le-largest, largest-le}
 use Rattle.abelian.proofs.Counts.{sum-vector, count-part, vector-counts, counts-vector}
-use Rattle.full_periods.specs.Marks.{isFull}
 use Rattle.full_periods.specs.Divisors.{GreatestDivisor}
 use Rattle.full_periods.proofs.Divisors.{divides-dvd, dvd-divides, greatest-exists}
 use Rattle.full_periods.proofs.Blocks.{next-multiple, full-divides, full-positive, full-alike, alike-full}
@@ -185,10 +184,10 @@ module _ (w : List ℕ) (t : T (ofLetters w)) where
           ∙ ap (λ (a : ℕ). a * (q * x)) (mul-comm p i)
           ∙ ap (λ (a : ℕ). i * p * a) (sym (full-count f c m)))
 
-      -- and back: a divisor of n whose multiples are all scaled is a full period
-      pub multiples-scaled-full : 1 ≤ p → p ∣ length w → ((i : ℕ) → i * p ≤ length w → T (isScaled w (i * p))) → T (isFull w p)
-      multiples-scaled-full l d h =
-          alike-full w p t l (le-of-dvd some d) d (λ i b.
+      -- and back: a divisor of n that is smaller and whose multiples are all scaled is a full period
+      pub multiples-scaled-full : p ∣ length w → p < length w → ((i : ℕ) → i * p ≤ length w → T (isScaled w (i * p))) → T (isFull w p)
+      multiples-scaled-full d l h =
+          alike-full w p t d l (λ i b.
           counts-vector (part w (i * p) p) (take p w) (λ c m.
           eq-of-mul-eq-mul-left (length w) some (count c (part w (i * p) p)) (count c (take p w)) (block-counts i b c m ∙ sym (first-counts c m))))
         where
@@ -206,6 +205,7 @@ module _ (w : List ℕ) (t : T (ofLetters w)) where
               ap (λ (k : ℕ). length w * k) (count-part c (i * p) p w) ∙ mul-add (length w) (count c (take (i * p) w)) (count c (part w (i * p) p)) in
               omega (arith, add-mul (i * p) p (count c w))
 
-      -- Lemma 3: a divisor of n is a full period exactly where all its multiples up to n are scaled positions
-      pub lemma-3 : 1 ≤ p → p ∣ length w → T (isFull w p) ↔ ((i : ℕ) → i * p ≤ length w → T (isScaled w (i * p)))
-      lemma-3 l d = (full-multiples-scaled, multiples-scaled-full l d)
+      -- Lemma 3: a divisor of n that is smaller is a full period exactly where all its multiples up to n are scaled positions. Of n itself document 002
+      -- has the lemma too, and C-18 counts it no more.
+      pub lemma-3 : p ∣ length w → p < length w → T (isFull w p) ↔ ((i : ℕ) → i * p ≤ length w → T (isScaled w (i * p)))
+      lemma-3 d l = (full-multiples-scaled, multiples-scaled-full d l)

@@ -6,3 +6,4 @@ pub mod Blocks
 pub mod Listing
 pub mod Lemma3
 pub mod Positions
+pub mod TwoBlocks

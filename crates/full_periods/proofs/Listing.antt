@@ -7,12 +7,12 @@ use native.Mathlib.Omega.{arith}
 use lib.ListN.{length, length-map}
 use lib.Dec.{T}
 use Rattle.abelian.specs.Words.{longest, ofLetters}
-use Rattle.abelian.specs.FullPeriods.{fullPeriods}
+use Rattle.abelian.specs.FullPeriods.{isFull, fullPeriods}
 use Rattle.abelian.specs.Output.{fullWord}
 use Rattle.abelian.specs.Calls.{fullWords}
 use Rattle.full_periods.specs.declared.scaled.ScaledPath.{ScaledPath}
 use Rattle.full_periods.specs.Paths.{scaledPath}
-use Rattle.full_periods.specs.Marks.{Steps, isFull, fullMarks, marked}
+use Rattle.full_periods.specs.Marks.{Steps, fullMarks, marked}
 use Rattle.full_periods.proofs.Tables.{marks-isMarked, marks-marked}
 use Rattle.full_periods.proofs.Blocks.{full-positive}
 use Rattle.full_periods.proofs.Lemma3.{scale-divides, observation-1}
@@ -34,7 +34,7 @@ path-steps w path t short e = subst (λ (x : ScaledPath). Steps (x .s) (length w
 module _ (w table : List ℕ) (short : length w ≤ longest) (e : table ≡ fullMarks w) where
   -- a table of the full periods marks them, up to the word's length
   pub marked-full : marked (length w) table ≡ fullPeriods w
-  unfolding fullMarks fullPeriods isFull
+  unfolding fullMarks fullPeriods
   marked-full = ap (marked (length w)) e ∙ marks-marked (isFull w) (length w) short
 
   -- so their words are those of the definition

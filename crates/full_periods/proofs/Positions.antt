@@ -5,18 +5,18 @@ use mathlib.Core.Bool.{Bool, true, false, _&&_}
 use mathlib.Core.Logic.{⊎-elim}
 use mathlib.Core.List.{List, [], _∷_, List·Memᴰ, List·Memᴰ·head, List·Memᴰ·not-nil}
 use Prim.Native.Nat.{ℕ, zero, suc, _+_, _*_, _/_, _≤_, _<_, _∣_}
-use native.Mathlib.Nat.{zero-mul, mul-zero, one-mul, suc-mul, mul-div-cancel, mul-div-le, div-mul-cancel, div-mul-le-self, lt-div-mul-add, le-div-iff-mul-le, mul-le-mul-right, lt-of-mul-lt-mul-right, le-of-dvd, dvd-zero, dvd-mul-left, zero-div, div-zero}
+use native.Mathlib.Nat.{zero-mul, mul-zero, one-mul, suc-mul, mul-div-cancel, mul-div-le, div-mul-cancel, div-mul-le-self, lt-div-mul-add, le-div-iff-mul-le, mul-le-mul-right, lt-of-mul-lt-mul-right, le-of-dvd, pos-of-dvd-of-pos, dvd-zero, dvd-mul-left, zero-div, div-zero}
 use native.Mathlib.Omega.{arith}
 use lib.ListN.{length, take, getD, List·getD-map}
 use lib.Dec.{T, eqb, leb}
 use borrow.Author.Tests.{le-leb, lt-leb}
 use Rattle.abelian.specs.Lists.{upFrom, keep, all, largest}
 use Rattle.abelian.specs.Words.{alphabetSize, firstLetter, longest, letters, ofLetters, count, vector}
-use Rattle.abelian.specs.FullPeriods.{divides, countDivisor, scale, isScaled, scaledPositions, distances, scaledGap}
+use Rattle.abelian.specs.FullPeriods.{divides, isFull, countDivisor, scale, isScaled, scaledPositions, distances, scaledGap}
 use Rattle.abelian.proofs.Tests.{is-true, is-false, passes, fails, both, right, decided, iff-equal}
 use Rattle.abelian.proofs.Lists.{mem-keep, keep-mem, all-mem, mem-all, mem-upFrom, upFrom-mem, keep-agree, below-or-not}
 use Rattle.words.proofs.Vectors.{vector-at, places-letters, place-letter}
-use Rattle.full_periods.specs.Marks.{Steps, isMarked, marked, marksMultiples, isFull, scaledMarks}
+use Rattle.full_periods.specs.Marks.{Steps, isMarked, marked, marksMultiples, scaledMarks}
 use Rattle.full_periods.specs.Divisors.{divided, unitCounts, isMultiple}
 use Rattle.full_periods.proofs.Tables.{marks-isMarked}
 use Rattle.full_periods.proofs.Divisors.{dvd-divides}
@@ -131,18 +131,21 @@ module _ (w : List ℕ) (t : T (ofLetters w)) (some : 0 < length w) where
         (λ k m. let b : (1 ≤ k) × (k < 1 + length w) = mem-upFrom 1 (length w) m in scaled-marked k (omega arith)) in
         ap (λ (g : ℕ). g / scale w) (greatest-later ∙ ap (λ (xs : List ℕ). largest (distances 0 xs)) (sym e))
 
-    -- a divisor of n whose multiples are all marked is a full period, and no other
-    pub multiples-full : (p : ℕ) → 1 ≤ p → p ∣ length w → marksMultiples (scaledMarks w) (length w) p ≡ isFull w p
+    -- a divisor of n that is smaller and whose multiples are all marked is a full period, and no other
+    pub multiples-full : (p : ℕ) → p ∣ length w → p < length w → marksMultiples (scaledMarks w) (length w) p ≡ isFull w p
     unfolding marksMultiples
-    multiples-full p l d =
+    multiples-full p d below =
         let f : ℕ → Bool = λ i. isMarked (scaledMarks w) (i * p) in
         iff-equal (all f (upFrom 1 (length w / p))) (isFull w p)
-        (λ a. multiples-scaled-full w t some p l d (λ i b. scaled-multiple a i b))
+        (λ a. multiples-scaled-full w t some p d below (λ i b. scaled-multiple a i b))
         (λ a. mem-all f (upFrom 1 (length w / p)) (λ i m.
         let b : (1 ≤ i) × (i < 1 + length w / p) = mem-upFrom 1 (length w / p) m in
         let r : i * p ≤ length w = le-div-iff-mul-le l .0 (omega arith) in
         passes (f i) (scaled-marked (i * p) r ∙ is-true (isScaled w (i * p)) (full-multiples-scaled w t some p a i r))))
       where
+        l : 1 ≤ p
+        l = pos-of-dvd-of-pos d some
+
         scaled-multiple : T (all (λ (i : ℕ). isMarked (scaledMarks w) (i * p)) (upFrom 1 (length w / p))) → (i : ℕ) → i * p ≤ length w → T (isScaled w (i * p))
         scaled-multiple a zero b = subst (λ (k : ℕ). T (isScaled w k)) (sym (zero-mul p)) start-scaled
         scaled-multiple a (suc i) b =

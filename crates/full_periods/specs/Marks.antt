@@ -6,8 +6,7 @@ use lib.ListN.{length, getD}
 use lib.Dec.{T, eqb, leb}
 use Rattle.abelian.specs.Lists.{one, upFrom, keep, all}
 use Rattle.abelian.specs.Words.{longest}
-use Rattle.abelian.specs.Periods.{pair, isPeriod}
-use Rattle.abelian.specs.FullPeriods.{divides, isScaled}
+use Rattle.abelian.specs.FullPeriods.{isFull, isScaled}
 
 -- the table that marks the numbers that pass the test
 unfoldable pub marks : (ℕ → Bool) → List ℕ
@@ -29,10 +28,6 @@ pub record Steps (step n : ℕ) (table : List ℕ) : Type 0 where
 -- the table marks every multiple of p from p to n
 unfoldable pub marksMultiples : List ℕ → ℕ → ℕ → Bool
 marksMultiples table n p = all (λ (i : ℕ). isMarked table (i * p)) (upFrom 1 (n / p))
-
--- p is a full period of the word
-unfoldable pub isFull : List ℕ → ℕ → Bool
-isFull w p = divides p (length w) && isPeriod w (pair 0 p)
 
 -- the table of the word's full periods
 unfoldable pub fullMarks : List ℕ → List ℕ

@@ -1,4 +1,4 @@
-// The plain path: every block of every period that divides the word's length is counted.
+// The plain path: every block of every period that divides the word's length and is smaller is counted.
 use abelian::Period;
 use words::ROWS;
 ghost use mathlib.Core.Path.{_≡_};
@@ -6,17 +6,15 @@ ghost use Prim.Native.Nat.{_≤_};
 ghost use lib.Dec.{T};
 ghost use lib.ListN.{length};
 ghost use Rattle.abelian.specs.Words.{longest, ofLetters};
-ghost use Rattle.abelian.specs.FullPeriods.{divides};
-ghost use Rattle.full_periods.specs.Marks.{isFull, fullMarks};
+ghost use Rattle.abelian.specs.FullPeriods.{properDivisor, isFull};
+ghost use Rattle.full_periods.specs.Marks.{fullMarks};
 
-// Whether the period, which divides the word's length, is a full one: whether all blocks have the first block's vector. The blocks
-// are parts of the word.
+// Whether the period, which divides the word's length and is smaller, is a full one: whether all blocks have the first block's vector. The
+// blocks are parts of the word.
 fn blocks_alike(word: &[u8], period: Period) -> bool
     requires { ⌜ T (ofLetters (now word)) ⌝ }
     requires { ⌜ length (now word) ≤ longest ⌝ }
-    requires { ⌜ 1 ≤ period .0 ⌝ }
-    requires { ⌜ period .0 ≤ length (now word) ⌝ }
-    requires { ⌜ T (divides (period .0) (length (now word))) ⌝ }
+    requires { ⌜ T (properDivisor (period .0) (length (now word))) ⌝ }
     ensures { λ r. ⌜ r ≡ isFull (now (word .entry)) (period .0) ⌝ }
 {
     let p = period.0;
@@ -32,7 +30,7 @@ fn blocks_alike(word: &[u8], period: Period) -> bool
     true
 }
 
-// The table of the word's full periods.
+// The table of the word's full periods. None is above n / 2, since two blocks fit the word.
 pub(crate) fn mark_full(word: &[u8]) -> [u8; ROWS]
     requires { ⌜ T (ofLetters (now word)) ⌝ }
     requires { ⌜ length (now word) ≤ longest ⌝ }
@@ -40,7 +38,7 @@ pub(crate) fn mark_full(word: &[u8]) -> [u8; ROWS]
 {
     let mut marks = [0u8; ROWS];
     let mut p = 1;
-    while p <= word.len() {
+    while p + p <= word.len() {
         if word.len() % p == 0 && blocks_alike(word, Period(p)) {
             marks[p] = 1;
         }

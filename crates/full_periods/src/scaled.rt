@@ -54,8 +54,8 @@ fn mark_scaled(word: &[u8], s: usize, unit: [u8; LETTERS]) -> [u8; ROWS]
     marks
 }
 
-// The table of the full periods: of the multiples of s from s times T on those that divide n and whose multiples are all scaled. The
-// whole word is a full period, and no other number above n / 2 divides n.
+// The table of the full periods: of the multiples of s from s times T on those that divide n and whose multiples are all scaled. None is
+// above n / 2, since two blocks fit the word.
 fn mark_full(word: &[u8], s: usize, t: usize, positions: &[u8; ROWS]) -> [u8; ROWS]
     requires { ⌜ T (ofLetters (now word)) ⌝ }
     requires { ⌜ length (now word) ≤ longest ⌝ }
@@ -74,7 +74,6 @@ fn mark_full(word: &[u8], s: usize, t: usize, positions: &[u8; ROWS]) -> [u8; RO
         }
         p += s;
     }
-    marks[n] = 1;
     marks
 }
 

@@ -1,4 +1,4 @@
--- Of a word's Abelian periods those with h = 0 and p dividing the length are its full periods.
+-- Of a word's Abelian periods those with h = 0 and p dividing the length and smaller than it are its full periods.
 use mathlib.Core.Path.{_≡_, refl, ap, _∙_}
 use mathlib.Core.Bool.{Bool, true, false, _&&_}
 use mathlib.Core.List.{List, [], _++_, map, map-append}
@@ -8,7 +8,7 @@ use lib.ListN.{length}
 use lib.Dec.{T, eqb, eqb→eq}
 use Rattle.abelian.specs.Lists.{upFrom, put, keep, each}
 use Rattle.abelian.specs.Periods.{Pair, pair, heads, row, pairs, isPeriod, periods}
-use Rattle.abelian.specs.FullPeriods.{divides, fullPeriods}
+use Rattle.abelian.specs.FullPeriods.{properDivisor, isFull, fullPeriods}
 use Rattle.abelian.proofs.Tests.{is-false, left}
 use Rattle.abelian.proofs.Lists.{keep-append, keep-keep}
 use Rattle.history.specs.History.{fullPair}
@@ -47,9 +47,9 @@ module _ (f : Pair → Bool) (z : (x : Pair) → T (f x) → x .head ≡ 0) wher
 -- ---- the full pairs
 
 pub full-pairs : (w : List ℕ) → map periodOf (keep (fullPair (length w)) (periods w)) ≡ fullPeriods w
-unfolding periods pairs fullPeriods
+unfolding periods pairs fullPeriods isFull
 full-pairs w =
     ap (map periodOf) (keep-keep (fullPair (length w)) (isPeriod w) (pairs (length w)))
     ∙ rows-first (λ (x : Pair). fullPair (length w) x && isPeriod w x)
-    (λ x t. eqb→eq (x .head) 0 (left (eqb (x .head) 0) (divides (x .period) (length w)) (left (fullPair (length w) x) (isPeriod w x) t)))
+    (λ x t. eqb→eq (x .head) 0 (left (eqb (x .head) 0) (properDivisor (x .period) (length w)) (left (fullPair (length w) x) (isPeriod w x) t)))
     (length w) 1 (length w) (omega arith) (omega arith)

@@ -10,7 +10,7 @@ use Rattle.abelian.specs.Lists.{keep}
 use Rattle.abelian.specs.Words.{longest, ofLetters}
 use Rattle.abelian.specs.Periods.{Pair, inRange, periods, AbelianPeriod, Rising}
 use Rattle.abelian.specs.Trials.{plainTrials, skippingTrials}
-use Rattle.abelian.specs.FullPeriods.{divides, fullPeriods, scale, scaledGap}
+use Rattle.abelian.specs.FullPeriods.{properDivisor, fullPeriods, scale, scaledGap}
 use Rattle.abelian.specs.EndedLengths.{endedLength, boardOf}
 use Rattle.abelian.specs.Answers.{counting}
 use Rattle.abelian.specs.Calls.{writingWords, periodWords, fullWords, plainListing, skippingListing, scaledListing}
@@ -29,9 +29,9 @@ pub record HoldsWord (t : Tracker) (w : List ℕ) : Type 0 where
   pub len : t .len ≡ length w
   pub bytes : t .bytes ≡ w ++ replicate (longest - length w) 0
 
--- h = 0 and p divides n
+-- h = 0, and p divides n and is smaller
 abbrev pub fullPair : ℕ → Pair → Bool
-fullPair n x = eqb (x .head) 0 && divides (x .period) n
+fullPair n x = eqb (x .head) 0 && properDivisor (x .period) n
 
 -- What is claimed of a list of calls that leaves the machine with the word w and the tracker t.
 pub record Claim (calls : List Call) (w : List ℕ) (t : Tracker) : Type 0 where
@@ -58,7 +58,7 @@ pub record Claim (calls : List Call) (w : List ℕ) (t : Tracker) : Type 0 where
   -- both listers write the same for that word, by the definitions that their contracts name
   pub plain : (out : List ℕ) → length (periodWords w) ≤ length out → plainListing w out ≡ writingWords (periodWords w) (plainTrials w) 0 0 out
   pub skipping : (out : List ℕ) → length (periodWords w) ≤ length out → skippingListing w out ≡ writingWords (periodWords w) (skippingTrials w) 0 0 out
-  -- of these periods those with h = 0 and p dividing the length are the full periods
+  -- of these periods those with h = 0 and p dividing the length and smaller than it (C-18) are the full periods
   pub full : map (λ (x : Pair). x .period) (keep (fullPair (length w)) (periods w)) ≡ fullPeriods w
   -- that the scaled path writes, by the definition that its contract names
   pub scaled : (out : List ℕ) → length (fullWords w) ≤ length out → scaledListing w out ≡ writingWords (fullWords w) 0 (scale w) (scaledGap w) out

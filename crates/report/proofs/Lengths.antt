@@ -12,7 +12,7 @@ use Rattle.abelian.specs.Lists.{upFrom, put, keep, each}
 use Rattle.abelian.specs.Words.{longest, ofLetters, allEqual, oneLetter}
 use Rattle.abelian.specs.Periods.{Pair, pair, inRange, pairs, isPeriod, periods}
 use Rattle.abelian.specs.Output.{periodWord, squareWord, fullWord}
-use Rattle.abelian.specs.FullPeriods.{divides, fullPeriods}
+use Rattle.abelian.specs.FullPeriods.{divides, properDivisor, isFull, fullPeriods}
 use Rattle.abelian.specs.Squares.{squareStarts, squareWords}
 use Rattle.abelian.specs.Refusals.{reportRefusal}
 use Rattle.abelian.specs.Trackers.{boardSize}
@@ -43,13 +43,13 @@ both-shorter f g (x ∷ xs) = go (f x) (g x) (both-shorter f g xs)
     go true false h = omega arith
     go false b h = h
 
--- no number up to the longest word's length has more than 20 divisors: computed of them all
+-- no number up to the longest word's length has more than 19 divisors that are smaller: computed of them all
 abbrev fewDivisors : ℕ → Bool
-fewDivisors n = leb (length (keep (λ (d : ℕ). divides d n) (upFrom 1 n))) 20
+fewDivisors n = leb (length (keep (λ (d : ℕ). properDivisor d n) (upFrom 1 n))) 19
 
-few-divisors : (n : ℕ) → n ≤ longest → length (keep (λ (d : ℕ). divides d n) (upFrom 1 n)) ≤ 20
-unfolding longest divides
-few-divisors n h = leb→le _ 20 (all-mem fewDivisors (upFrom 0 241) tt (upFrom-mem 0 241 n (omega arith) (omega arith)))
+few-divisors : (n : ℕ) → n ≤ longest → length (keep (λ (d : ℕ). properDivisor d n) (upFrom 1 n)) ≤ 19
+unfolding longest divides properDivisor
+few-divisors n h = leb→le _ 19 (all-mem fewDivisors (upFrom 0 241) tt (upFrom-mem 0 241 n (omega arith) (omega arith)))
 
 module _ (w : List ℕ) where
   -- the head's word, and those of the three lists
@@ -61,11 +61,11 @@ module _ (w : List ℕ) where
   unfolding fullWords periodWords
   report-length = omega (arith, parts-length, length-map (fullPeriods w) (fullWord (length w)), length-map (periods w) periodWord)
 
-  -- a word has no more full periods than its length has divisors
-  full-few : length w ≤ longest → length (fullPeriods w) ≤ 20
-  unfolding fullPeriods
+  -- a word has no more full periods than its length has divisors that are smaller
+  full-few : length w ≤ longest → length (fullPeriods w) ≤ 19
+  unfolding fullPeriods isFull
   full-few h =
-      omega (arith, few-divisors (length w) h, both-shorter (λ (p : ℕ). divides p (length w)) (λ (p : ℕ). isPeriod w (pair 0 p)) (upFrom 1 (length w)))
+      omega (arith, few-divisors (length w) h, both-shorter (λ (p : ℕ). properDivisor p (length w)) (λ (p : ℕ). isPeriod w (pair 0 p)) (upFrom 1 (length w)))
 
   -- no more Abelian periods than a board has entries
   periods-few : length w ≤ longest → length (periods w) ≤ boardSize

@@ -18,8 +18,8 @@ ghost use Rattle.abelian.specs.Refusals.{reportRefusal};
 ghost use Rattle.abelian.specs.Answers.{outcomeOf, answeredWrote, answeredNeeded};
 ghost use Rattle.abelian.specs.Calls.{reporting, reportCount};
 
-// The most full periods of a word: each divides the word's length, and no number up to 240 has more divisors than 240.
-const FULL_PERIODS: usize = 20;
+// The most full periods of a word: each divides the word's length and is smaller, and no number up to 240 has more such divisors than 240.
+const FULL_PERIODS: usize = 19;
 
 // Places enough for the report of every word: one for the head, and as many as there can be full periods, Abelian periods and squares. No report is so
 // long: only 240 letters that are all equal have so many Abelian periods, and these are refused.

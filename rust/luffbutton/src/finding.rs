@@ -19,11 +19,11 @@ pub enum Finding {
         /// The first position.
         start: usize,
     },
-    /// Kind 3: a full period.
+    /// Kind 3: a full period, which is smaller than the word's length.
     Full {
         /// The length of its blocks.
         period: Period,
-        /// How many blocks the word has.
+        /// How many blocks the word has, two or more.
         blocks: usize,
     },
     /// Kind 7: an anagram window of a pattern in a record.

@@ -37,8 +37,8 @@
 //! let needed = count_report(word).unwrap();
 //! let mut out = vec![0; needed];
 //! assert_eq!(report(word, &mut out), Ok(needed));
-//! // Its head, one full period, two periods and one square.
-//! assert_eq!(findings(&out).count(), 5);
+//! // Its head, two periods and one square.
+//! assert_eq!(findings(&out).count(), 4);
 //! ```
 #![no_std]
 #![deny(missing_docs)]

@@ -21,8 +21,8 @@ pub const MOST_PERIODS: usize = BOARD;
 /// The most words that a list of squares can have.
 pub const MOST_SQUARES: usize = 14400;
 
-/// The most words that a list of full periods can have.
-pub const MOST_FULL: usize = 20;
+/// The most words that a list of full periods can have: so many numbers below 240 divide it.
+pub const MOST_FULL: usize = 19;
 
 /// A bound on the words of a list of runs: no list has more. No two runs of one block length start one block apart, and a run takes two
 /// words. It is a bound and not the most words that a list can have, which we do not know; the longest list that we have met, that of

@@ -75,7 +75,7 @@ fn listed(answer: numbers::Listed) -> Result<Listed, Refusal> {
     Ok(Listed { written, trials })
 }
 
-/// Writes the full periods by rising p, and returns how many: refusals 1, 2, 3.
+/// Writes the full periods by rising p, each smaller than the word's length, and returns how many: refusals 1, 2, 3.
 pub fn list_full(word: &[u8], out: &mut [u32]) -> Result<usize, Refusal> {
     written(numbers::list_full(word, out))
 }

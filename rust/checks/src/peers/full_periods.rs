@@ -1,4 +1,5 @@
-//! Document 002's quasi-linear algorithm for full periods (Figures 1 and 2).
+//! Document 002's quasi-linear algorithm for full periods (Figures 1 and 2), without its last line, which adds n: by request C-18 a full
+//! period is smaller.
 use super::{index, word_refusal, write};
 use crate::calls::Answer;
 use luffbutton::{LETTERS, LONGEST};
@@ -22,7 +23,7 @@ pub fn list_full_002(word: &[u8], out: &mut [u32]) -> Answer {
     let (scaled, t) = scaled_positions(word, s, &share);
     let mut found = Vec::new();
     for d in divisors(g) {
-        if d >= t && (0..n).step_by(d * s).all(|k| scaled[k]) {
+        if d >= t && d < g && (0..n).step_by(d * s).all(|k| scaled[k]) {
             found.push(full_word(n, d * s));
         }
     }

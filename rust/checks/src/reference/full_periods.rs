@@ -3,7 +3,7 @@ use super::periods::{is_period, Pair};
 use super::words::vector;
 use luffbutton::{Head, Period};
 
-/// The Abelian periods with head 0 whose period divides n, by rising p; p = n counts.
+/// The Abelian periods with head 0 whose period divides n and is smaller, by rising p.
 pub fn full_periods(word: &[u8]) -> Vec<usize> {
     let n = word.len();
     let head = Head(0);
@@ -11,7 +11,7 @@ pub fn full_periods(word: &[u8]) -> Vec<usize> {
         let period = Period(p);
         n % p == 0 && is_period(word, Pair { head, period })
     };
-    (1..=n).filter(full).collect()
+    (1..n).filter(full).collect()
 }
 
 /// The greatest number that divides both.

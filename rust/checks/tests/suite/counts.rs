@@ -115,11 +115,11 @@ fn vectors_of_trackers() {
 fn marked_words() {
     let table: [(&[u8], [usize; 4], Answer); 6] = [
         (b"", [0, 0, 0, 0], Answer::of_words(1)),
-        (b"a", [1, 1, 0, 0], Answer::of_words(3)),
-        (b"aa", [2, 2, 1, 2], Answer::refused(10, 0)),
-        (b"abb", [2, 1, 1, 2], Answer::of_words(5)),
-        (b"abba", [4, 2, 2, 4], Answer::of_words(9)),
-        (b"abaababa", [16, 1, 6, 10], Answer::of_words(24)),
+        (b"a", [1, 0, 0, 0], Answer::of_words(2)),
+        (b"aa", [2, 1, 1, 2], Answer::refused(10, 0)),
+        (b"abb", [2, 0, 1, 2], Answer::of_words(4)),
+        (b"abba", [4, 1, 2, 4], Answer::of_words(8)),
+        (b"abaababa", [16, 0, 6, 10], Answer::of_words(23)),
     ];
     for (word, [periods, full, squares, runs], report) in table {
         let _shown = shown(word);

@@ -191,7 +191,7 @@ fn slices_for_the_longest_lists() {
     let _shown = shown(&word);
     // Of runs, by length d of a block, as many as starts up to d from which two blocks fit: 3,240 up to d = 80, and 1,600 above.
     let runs = 2 * (3240 + 1600);
-    let needed = [14520, 14520, 20, 20, 14400, runs];
+    let needed = [14520, 14520, 19, 19, 14400, runs];
     for ((name, count), needed) in COUNT_CALLS.into_iter().zip(needed) {
         assert_eq!(count(&Library, &word), Answer::of_words(needed), "{name}");
     }

@@ -118,8 +118,8 @@ fn each_letter_by_itself() {
     }
 }
 
-/// Blocks that differ in x and y alone, behind an a in each: the judge finds x missing in the second one, the whole word is the one full
-/// period, (1, 3) and (0, 4) are the periods, and there is no square, no run and no cover.
+/// Blocks that differ in x and y alone, behind an a in each: the judge finds x missing in the second one, (1, 3) and (0, 4) are the periods,
+/// and there is no full period, no square, no run and no cover.
 fn assert_told_apart(x: u8, y: u8) {
     let word = [FIRST_LETTER, x, FIRST_LETTER, y];
     let _shown = shown(&word);
@@ -129,7 +129,7 @@ fn assert_told_apart(x: u8, y: u8) {
         ..Answer::default()
     };
     assert_eq!(Library.judge(&word, Head(0), Period(2)), due);
-    for ((name, count), words) in COUNT_CALLS.into_iter().zip([2, 2, 1, 1, 0, 0, 4]) {
+    for ((name, count), words) in COUNT_CALLS.into_iter().zip([2, 2, 0, 0, 0, 0, 3]) {
         assert_eq!(count(&Library, &word), Answer::of_words(words), "{name}");
     }
     assert_eq!(Library.find_cover(&word), Answer::default());

@@ -20,7 +20,8 @@ pub struct Reported {
     pub answer: Answer,
 }
 
-/// A word with everything that document 01 defines of it, over the letters of request C-16; the report's head is that of C-14.
+/// A word with everything that document 01 defines of it, over the letters of request C-16; the report's head is that of C-14, and the full
+/// periods are those of C-18.
 pub struct WordRecord {
     pub word: Vec<u8>,
     pub plain_trials: usize,
@@ -155,15 +156,31 @@ fn output_words(numbers: &[usize]) -> Vec<u32> {
     numbers.iter().map(|&x| x as u32).collect()
 }
 
+/// Drops the full period n, by the number that stands for it. The files are from before request C-18: of every word but the empty one they have
+/// it just once, and it is no full period any more.
+fn drop_whole_word(word: &[u8], numbers: &mut Vec<usize>, whole: usize) {
+    let before = numbers.len();
+    numbers.retain(|&number| number != whole);
+    let dropped = before - numbers.len();
+    assert_eq!(dropped, word.len().min(1), "{}", word.escape_ascii());
+}
+
+/// The full periods of a word.
+fn full(word: &[u8], mut periods: Vec<usize>) -> Vec<usize> {
+    drop_whole_word(word, &mut periods, word.len());
+    periods
+}
+
 /// What the report of a word writes and answers, from the numbers of its words. The files are from before request C-17: of two or more equal
 /// letters their line stands for refusal 10.
-fn reported(word: &[u8], numbers: &[usize]) -> Reported {
+fn reported(word: &[u8], mut numbers: Vec<usize>) -> Reported {
     if word.len() >= 2 && word.iter().all(|&letter| letter == word[0]) {
         let (words, answer) = (Vec::new(), Answer::refused(10, 0));
         return Reported { words, answer };
     }
+    drop_whole_word(word, &mut numbers, (3 << 28) + (word.len() << 14) + 1);
     Reported {
-        words: output_words(numbers),
+        words: output_words(&numbers),
         answer: Answer::of_words(numbers.len()),
     }
 }
@@ -191,13 +208,13 @@ fn word_record(lines: &[Line]) -> WordRecord {
     let failure = |x: Vec<usize>| ((x[0], x[1]), (x[2], x[3]));
     let word = word(rows["word"]);
     WordRecord {
-        report: reported(&word, &numbers(rows["report"])),
+        report: reported(&word, numbers(rows["report"])),
+        full: full(&word, numbers(rows["full"])),
         word,
         plain_trials: trials[0],
         skipping_trials: trials[1],
         s: scaled[0],
         t: scaled[1],
-        full: numbers(rows["full"]),
         periods: parts(rows["period"]).into_iter().map(pair).collect(),
         squares: parts(rows["square"]).iter().map(|x| (x[0], x[1])).collect(),
         covers: numbers(rows["cover"]),
@@ -382,7 +399,7 @@ fn report_record(line: &'static str) -> ReportRecord {
     let letters = left.strip_prefix("report ");
     let word = word(letters.expect("a word and its report"));
     ReportRecord {
-        report: reported(&word, &listed),
+        report: reported(&word, listed),
         word,
     }
 }

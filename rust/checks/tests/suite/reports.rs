@@ -15,7 +15,7 @@ fn the_file_has_its_records() {
     let records = read_reports();
     assert_eq!(records.len(), 80);
     let words: usize = records.iter().map(|record| record.report.words.len()).sum();
-    assert_eq!(words, 1326);
+    assert_eq!(words, 1280);
     let longest = records.iter().map(|record| record.word.len()).max();
     assert_eq!(longest, Some(16));
 }
@@ -145,7 +145,7 @@ fn words_of_one_letter() {
             let _shown = shown(&word);
             let due = match n {
                 0 => Answer::of_words(1),
-                1 => Answer::of_words(3),
+                1 => Answer::of_words(2),
                 _ => Answer::refused(10, 0),
             };
             for calls in BOTH {

@@ -5,7 +5,7 @@ use mathlib.Core.Bool.{true, false}
 use mathlib.Core.List.{List}
 use mathlib.Core.Logic.{⊎-elim, _≢_}
 use Prim.Native.Nat.{ℕ, suc, _+_, _-_, _*_, _≤_, _<_, _∣_}
-use native.Mathlib.Nat.{one-mul, zero-mul, suc-mul, lt-of-mul-lt-mul-right}
+use native.Mathlib.Nat.{one-mul, zero-mul, suc-mul, lt-of-mul-lt-mul-right, pos-of-dvd-of-pos}
 use native.Mathlib.Omega.{arith}
 use lib.ListN.{length, take, drop, length-take, length-drop}
 use lib.Dec.{T}
@@ -16,8 +16,8 @@ use Rattle.abelian.specs.Words.{longest, ofLetters, vector, part}
 use Rattle.abelian.proofs.Tests.{is-true, is-false, passes, fails}
 use Rattle.abelian.proofs.Lists.{same-equal, equal-same, below-or-not}
 use Rattle.abelian.proofs.Counts.{letters-part}
-use Rattle.full_periods.specs.Marks.{isFull}
-use Rattle.full_periods.proofs.Divisors.{divides-dvd}
+use Rattle.abelian.specs.FullPeriods.{isFull}
+use Rattle.full_periods.proofs.Divisors.{proper-dvd, proper-below}
 use Rattle.full_periods.proofs.Blocks.{next-multiple, full-alike, alike-full}
 use Rattle.full_periods.proofs.plain.blocks_alike.Statement.{statement}
 use Rattle.full_periods.proofs.plain.blocks_alike.Tie as tie
@@ -59,14 +59,24 @@ module _ {w : List ℕ} {p : ℕ} {first : List ℕ} {from : ℕ} (h : Alike w p
       (λ t. n (ap (λ (k : ℕ). vector (part w k p)) (h .multiple) ∙ full-alike w p t (h .times) (omega (arith, h .multiple)) ∙ sym (h .firstIs)))
 
   -- every block has it
-  all-full : T (ofLetters w) → 1 ≤ p → p ≤ length w → length w ≤ from → isFull w p ≡ true
-  all-full t a b l =
+  all-full : T (ofLetters w) → p < length w → length w ≤ from → isFull w p ≡ true
+  all-full t b l =
       is-true (isFull w p)
-      (alike-full w p t a b d (λ i k. h .before i (lt-of-mul-lt-mul-right p (omega (arith, h .multiple)))))
+      (alike-full w p t d b (λ i k. h .before i (lt-of-mul-lt-mul-right p (omega (arith, h .multiple)))))
 
 -- a part of the word may be counted
 part-counts : (w : List ℕ) (from size : ℕ) → T (ofLetters w) → length w ≤ longest → T (ofLetters (part w from size)) × (length (part w from size) ≤ longest)
 part-counts w from size t l = (letters-part w from size t, omega (arith, length-take size (drop from w), length-drop from w))
+
+-- the period divides the length, is smaller and not 0
+divisor : (c : tie.Start Inv-loop μ-loop) → c .args .period .0 ∣ length (c .args .word .now)
+divisor c = proper-dvd (c .args .period .0) (length (c .args .word .now)) (c .pre .1 .1)
+
+below : (c : tie.Start Inv-loop μ-loop) → c .args .period .0 < length (c .args .word .now)
+below c = proper-below (c .args .period .0) (length (c .args .word .now)) (c .pre .1 .1)
+
+positive : (c : tie.Start Inv-loop μ-loop) → 1 ≤ c .args .period .0
+positive c = pos-of-dvd-of-pos (divisor c) (omega (arith, below c))
 
 sub-count-letters : tie.Need-sub-count-letters Inv-loop μ-loop
 sub-count-letters c = search needs
@@ -75,7 +85,7 @@ part-count-letters-start : tie.Need-part-count-letters-start Inv-loop μ-loop
 part-count-letters-start c = search needs
 
 part-count-letters-end : tie.Need-part-count-letters-end Inv-loop μ-loop
-part-count-letters-end c = search needs
+part-count-letters-end c = omega (arith, below (c .before))
 
 count-letters-requires : tie.Need-count-letters-requires Inv-loop μ-loop
 count-letters-requires c κs =
@@ -89,15 +99,11 @@ loop-holds c =
     let e : p - 0 ≡ p = omega arith in
     record {
       firstIs = c .count-letters .ensures ∙ ap (λ (k : ℕ). vector (take k (start .args .word .now))) e;
-      within = start .pre .1 .1 .1 .0;
+      within = omega (arith, below start);
       times = 1;
       multiple = sym (one-mul p);
       before = λ i b. let r : i * p ≡ 0 = ap (λ (k : ℕ). k * p) (omega arith) ∙ zero-mul p in ap (λ (k : ℕ). vector (part (start .args .word .now) k p)) r;
     }
-
--- the period divides the length
-divisor : (c : tie.Start Inv-loop μ-loop) → c .args .period .0 ∣ length (c .args .word .now)
-divisor c = divides-dvd (c .args .period .0) (length (c .args .word .now)) (c .pre .1 .1 .1 .1)
 
 -- the next block is a part of the word
 next-part : (c : tie.In-loop Inv-loop μ-loop)
@@ -105,7 +111,8 @@ next-part : (c : tie.In-loop Inv-loop μ-loop)
 next-part c = next-fits (c .before .loop .inv) (divisor (c .before .before .before .before .before)) (c .loop-test .taken)
 
 add-to : tie.Need-add-to Inv-loop μ-loop
-add-to c = search needs
+unfolding longest
+add-to c = omega (arith, next-part c, c .before .before .before .before .before .pre .1 .0)
 
 sub-count-letters-2 : tie.Need-sub-count-letters-2 Inv-loop μ-loop
 sub-count-letters-2 c = search needs
@@ -151,7 +158,7 @@ loop-less : tie.Need-loop-less Inv-loop μ-loop
 loop-less c =
     let in-loop = c .before .before .before .before in
     let start = in-loop .before .before .before .before .before in
-    omega (arith, next-part in-loop, start .pre .1 .1 .0)
+    omega (arith, next-part in-loop, positive start)
 
 loop-again : tie.Need-loop-again Inv-loop μ-loop
 loop-again c =
@@ -166,7 +173,7 @@ returns-2 : tie.Need-returns-2 Inv-loop μ-loop
 returns-2 c =
     let at-loop = c .before in
     let start = at-loop .before .before .before .before in
-    sym (all-full (at-loop .loop .inv) (divisor start) (start .pre .0) (start .pre .1 .1 .0) (start .pre .1 .1 .1 .0) (c .loop-test .left))
+    sym (all-full (at-loop .loop .inv) (divisor start) (start .pre .0) (below start) (c .loop-test .left))
 
 pub blocks-alike-spec : {M : Type 1} → statement M
 blocks-alike-spec =

@@ -10,9 +10,10 @@ use native.Mathlib.Omega.{arith}
 use lib.ListN.{length, set}
 use borrow.Author.Needs.{needs}
 use Rattle.abelian.specs.Words.{longest}
-use Rattle.full_periods.specs.Marks.{isFull, fullMarks}
-use Rattle.full_periods.proofs.Divisors.{dvd-divides}
-use Rattle.full_periods.proofs.Blocks.{zero-not-full, above-not-full, indivisible-not-full}
+use Rattle.abelian.specs.FullPeriods.{isFull}
+use Rattle.full_periods.specs.Marks.{fullMarks}
+use Rattle.full_periods.proofs.Divisors.{dvd-proper}
+use Rattle.full_periods.proofs.Blocks.{zero-not-full, indivisible-not-full, above-half-not-full}
 use Rattle.full_periods.proofs.Tables.{Marking, marking-start, marking-mark, marking-pass, marking-end}
 use Rattle.full_periods.proofs.plain.mark_full.Statement.{statement}
 use Rattle.full_periods.proofs.plain.mark_full.Tie as tie
@@ -51,6 +52,10 @@ loop-holds c =
       table = marking-pass (isFull word) _ 0 (marking-start (isFull word)) 1 (omega arith) (λ k a b. zero-not-full word k (omega arith));
     }
 
+add-loop : tie.Need-add-loop Inv-loop μ-loop
+unfolding longest
+add-loop c = search needs
+
 rem-if1 : tie.Need-rem-if1 Inv-loop μ-loop
 rem-if1 c = search needs
 
@@ -60,7 +65,7 @@ blocks-alike-requires c κs =
     let start = at-loop .before .before in
     let p = at-loop .loop .p in
     let n = length (start .args .word .now) in
-    (start .pre .0, (start .pre .1, (at-loop .loop .inv .from, (c .before .loop-test .taken, dvd-divides p n (dvd-of-mod-eq-zero p (c .if1 .taken))))))
+    (start .pre .0, (start .pre .1, dvd-proper p n (dvd-of-mod-eq-zero p (c .if1 .taken)) (omega (arith, at-loop .loop .inv .from, c .before .loop-test .taken))))
 
 array-write-marks : tie.Need-array-write-marks Inv-loop μ-loop
 unfolding longest
@@ -79,7 +84,7 @@ loop-again c =
     let start = at-loop .before .before in
     let word = start .args .word .now in
     let p = at-loop .loop .p in
-    let l : p ≤ length word = in-loop .loop-test .taken in
+    let l : p ≤ length word = omega (arith, in-loop .loop-test .taken) in
     ⊎-elim
     (λ w. rw (w .3) (marked-more (at-loop .loop .inv) l (start .pre .1) (sym (w .1 .ensures) ∙ w .2 .taken)))
     (λ w. rw (w .1) (marked-same (at-loop .loop .inv) l (start .pre .1)
@@ -91,7 +96,7 @@ unfolding fullMarks
 returns c =
     let at-loop = c .before in
     let word = at-loop .before .before .args .word .now in
-    marking-end (isFull word) (at-loop .loop .marks) (at-loop .loop .p) (at-loop .loop .inv .table) (λ k h. above-not-full word k (omega arith))
+    marking-end (isFull word) (at-loop .loop .marks) (at-loop .loop .p) (at-loop .loop .inv .table) (λ k h. above-half-not-full word k (omega arith))
 
 pub mark-full-spec : {M : Type 1} → statement M
 mark-full-spec =
@@ -100,6 +105,7 @@ mark-full-spec =
     Inv-loop
     μ-loop
     loop-holds
+    add-loop
     rem-if1
     blocks-alike-requires
     array-write-marks

@@ -2,7 +2,7 @@
 use mathlib.Core.Path.{_≡_, sym, ap, ap₂, subst, _∙_}
 use mathlib.Core.Logic.{⊎-elim}
 use mathlib.Core.List.{List}
-use Prim.Native.Nat.{ℕ, suc, _/_, _*_, _≤_}
+use Prim.Native.Nat.{ℕ, suc, _/_, _*_, _≤_, _<_}
 use native.Mathlib.Nat.{zero-mul, eq-zero-or-pos}
 use native.Mathlib.Omega.{arith}
 use lib.ListN.{length, replicate}
@@ -10,13 +10,13 @@ use lib.Dec.{T}
 use borrow.Author.Needs.{needs}
 use Rattle.abelian.specs.Lists.{largest}
 use Rattle.abelian.specs.Words.{longest}
-use Rattle.abelian.specs.FullPeriods.{countDivisor, scale, distances, scaledGap}
+use Rattle.abelian.specs.FullPeriods.{isFull, countDivisor, scale, distances, scaledGap}
 use Rattle.abelian.proofs.Tests.{is-false}
 use Rattle.full_periods.specs.declared.scaled.ScaledPath.{ScaledPath}
-use Rattle.full_periods.specs.Marks.{marked, isFull, fullMarks}
+use Rattle.full_periods.specs.Marks.{marked, fullMarks}
 use Rattle.full_periods.specs.Divisors.{GreatestDivisor, divided, unitCounts}
 use Rattle.full_periods.proofs.Tables.{marking-start, marking-end}
-use Rattle.full_periods.proofs.Blocks.{full-positive, full-within}
+use Rattle.full_periods.proofs.Blocks.{full-below}
 use Rattle.full_periods.proofs.Lemma3.{empty-divisor, greatest-countDivisor, divisor-times-scale, scale-positive}
 use Rattle.full_periods.proofs.Positions.{scaled-steps, gap-marked, empty-scale, empty-gap}
 use Rattle.full_periods.proofs.scaled.find_path.Statement.{statement}
@@ -31,7 +31,7 @@ empty-marks : (w : List ℕ) → length w ≡ 0 → replicate (suc longest) 0 �
 unfolding fullMarks
 empty-marks w e =
     marking-end (isFull w) (replicate (suc longest) 0) 0 (marking-start (isFull w))
-    (λ k h. is-false (isFull w k) (λ f. let a : 1 ≤ k = full-positive w k f in let b : k ≤ length w = full-within w k f in omega arith))
+    (λ k h. is-false (isFull w k) (λ f. let b : k < length w = full-below w k f in omega arith))
 
 -- what Euclid's algorithm gave is g
 divisor-is : (c : tie.After-count-divisor) → c .count-divisor .result ≡ countDivisor (c .before .before .before .args .word .now)

@@ -11,11 +11,11 @@ use lib.ListN.{length, set}
 use lib.Dec.{T}
 use borrow.Author.Needs.{needs}
 use Rattle.abelian.specs.Words.{longest, ofLetters}
-use Rattle.abelian.specs.FullPeriods.{scale, scaledGap}
-use Rattle.abelian.proofs.Tests.{is-true, is-false}
-use Rattle.full_periods.specs.Marks.{marksMultiples, isFull, fullMarks}
+use Rattle.abelian.specs.FullPeriods.{isFull, scale, scaledGap}
+use Rattle.abelian.proofs.Tests.{is-false}
+use Rattle.full_periods.specs.Marks.{marksMultiples, fullMarks}
 use Rattle.full_periods.proofs.Tables.{Marking, marking-start, marking-mark, marking-pass, marking-end}
-use Rattle.full_periods.proofs.Blocks.{above-not-full, indivisible-not-full, half-not-full, whole-full}
+use Rattle.full_periods.proofs.Blocks.{indivisible-not-full, above-half-not-full}
 use Rattle.full_periods.proofs.Lemma3.{scale-positive, observation-1}
 use Rattle.full_periods.proofs.Positions.{gap-positive, gap-within, observation-4, multiples-full}
 use Rattle.full_periods.proofs.scaled.mark_full.Statement.{statement}
@@ -96,15 +96,10 @@ module _ {w : List ℕ} {s t : ℕ} (g : Given w s t) where
     marked-same : isFull w p ≡ false → Marked w s n marks (p + s)
     marked-same e = marked-next (marking-pass (isFull w) marks p (h .table) (p + 1) (omega arith) (λ k a b. let q : k ≡ p = omega arith in ap (isFull w) q ∙ e))
 
-  -- behind the last p that is tried the whole word alone is full
-  marked-end : {n : ℕ} {marks : List ℕ} {p : ℕ} → Marked w s n marks p → n < p + p → set marks n 1 ≡ fullMarks w
+  -- behind the last p that is tried there is none
+  marked-end : {n : ℕ} {marks : List ℕ} {p : ℕ} → Marked w s n marks p → n < p + p → marks ≡ fullMarks w
   unfolding fullMarks
-  marked-end {n} {marks} {p} h l =
-      marking-end (isFull w) (set marks n 1) (n + 1)
-      (marking-mark (isFull w) marks n
-      (marking-pass (isFull w) marks p (h .table) n (h .within) (λ k a b. half-not-full w k (omega (arith, h .size)) (omega (arith, h .size))))
-      (omega (arith, g .short, h .size)) (ap (isFull w) (h .size) ∙ is-true (isFull w (length w)) (whole-full w (g .inside) (g .some))))
-      (λ k a. above-not-full w k (omega (arith, h .size)))
+  marked-end {n} {marks} {p} h l = marking-end (isFull w) marks p (h .table) (λ k a. above-half-not-full w k (omega (arith, h .size)))
 
 given : (c : tie.Start Inv-loop μ-loop) → Given (c .args .word .now) (c .args .s) (c .args .t)
 given c = record { inside = c .pre .0; short = c .pre .1 .0; some = c .pre .1 .1 .0; scaleIs = c .pre .1 .1 .1 .0; gapIs = c .pre .1 .1 .1 .1 .0 }
@@ -151,9 +146,10 @@ loop-again c =
     let w = start .args .word .now in
     let p = at-loop .loop .p in
     let g : Given w (start .args .s) (start .args .t) = given start in
-    let l : p + p ≤ length w = in-loop .loop-test .taken in
+    let below : p < length w = omega (arith, at-loop .loop .inv .from, in-loop .loop-test .taken) in
+    let l : p + p ≤ length w = omega (arith, in-loop .loop-test .taken) in
     let tried : length w % p ≡ 0 → isFull w p ≡ marksMultiples (start .args .positions .now) (length w) p = λ e.
-    sym (multiples-full w (g .inside) (g .some) (g .short) p (at-loop .loop .inv .from) (dvd-of-mod-eq-zero p e))
+    sym (multiples-full w (g .inside) (g .some) (g .short) p (dvd-of-mod-eq-zero p e) below)
     ∙ ap (λ (table : List ℕ). marksMultiples table (length w) p) (sym (start .pre .1 .1 .1 .1 .1)) in
     ⊎-elim
     (λ x. rw (x .3) (marked-more g (at-loop .loop .inv) l (tried (x .0 .taken) ∙ sym (x .1 .ensures) ∙ x .2 .taken)))
@@ -161,12 +157,8 @@ loop-again c =
     (⊎-elim (λ v. tried (v .0 .taken) ∙ sym (v .1 .ensures) ∙ v .2 .left) (λ v. indivisible-not-full w p (v .left)) (x .0 .came))))
     (c .if1 .came)
 
-array-write-marks-2 : tie.Need-array-write-marks-2 Inv-loop μ-loop
-unfolding longest
-array-write-marks-2 c = omega (arith, c .before .before .before .pre .1 .0)
-
 returns : tie.Need-returns Inv-loop μ-loop
-returns c = marked-end (given (c .before .before .before)) (c .before .loop .inv) (c .loop-test .left)
+returns c = marked-end (given (c .before .before .before)) (c .before .loop .inv) (omega (arith, c .loop-test .left))
 
 pub mark-full-spec : {M : Type 1} → statement M
 mark-full-spec =
@@ -183,5 +175,4 @@ mark-full-spec =
     add-p
     loop-less
     loop-again
-    array-write-marks-2
     returns)
