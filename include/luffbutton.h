@@ -86,7 +86,7 @@
  *     luff_list_squares, luff_report                1.8 to 2.0
  *     luff_list_runs                                1.9 to 2.7
  *     luff_tracker_add, n being the letters held    1.9 to 2.3
- *     luff_list_full                                0.9 to 1.2
+ *     luff_list_full                                0.6 to 1.6
  *     luff_find_cover                               1.0
  *     luff_list_windows, n places or more           1.0
  *     luff_list_full_scaled, luff_judge             0.4 to 1.0

@@ -405,18 +405,21 @@ requested =
     ∷ counts (windowCount aa (a ∷ a ∷ a ∷ [])) 2
     ∷ coverIs aa 1
     ∷ tracks (then (then freshTracker a) a) (a ∷ a ∷ 0 ∷ []) (pair 0 1) 0 (pair 0 1 ∷ pair 0 2 ∷ [])
-    -- C-18: the length is no full period, and half of it may be one, alone or behind others
+    -- C-18: the length is no full period, and half of it may be one, alone or behind others; of the longest word every other divisor may
     ∷ fullAre [] []
     ∷ fullAre (a ∷ []) []
     ∷ fullAre abb []
     ∷ fullAre abab (2 ∷ [])
     ∷ fullAre (a ∷ a ∷ b ∷ a ∷ a ∷ b ∷ []) (3 ∷ [])
     ∷ fullAre (a ∷ b ∷ b ∷ a ∷ a ∷ b ∷ b ∷ a ∷ []) (2 ∷ 4 ∷ [])
-    -- a list of none needs no place, its count is 0, and s and T are as they were
+    ∷ counts (fullCount (replicate 240 a)) 19
+    -- a list of none needs no place, its count is 0, and s and T are as they were, with full periods and without
     ∷ writes (fullListing abb []) 0 0 0 0 []
     ∷ writes (scaledListing abb []) 0 0 3 1 []
-    ∷ writes (scaledListing (a ∷ a ∷ b ∷ b ∷ []) (5 ∷ [])) 0 0 2 2 (5 ∷ [])
     ∷ counts (fullCount abb) 0
+    ∷ writes (scaledListing (a ∷ a ∷ b ∷ b ∷ []) (5 ∷ [])) 0 0 2 2 (5 ∷ [])
+    ∷ writes (scaledListing (a ∷ b ∷ a ∷ b ∷ a ∷ a ∷ b ∷ b ∷ []) (5 ∷ [])) 1 0 2 2 (805371906 ∷ [])
+    -- 3 asks for as many places as the list has words
     ∷ refuses (scaledListing (a ∷ a ∷ a ∷ a ∷ []) (5 ∷ [])) 3 2 (5 ∷ [])
     -- the report has no full period more than the list
     ∷ reportIs abab (2147549186 ∷ 805339138 ∷ 268468224 ∷ 268468225 ∷ 268484608 ∷ 268484609 ∷ 268500992 ∷ 536903681 ∷ [])

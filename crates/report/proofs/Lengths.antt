@@ -43,7 +43,7 @@ both-shorter f g (x ∷ xs) = go (f x) (g x) (both-shorter f g xs)
     go true false h = omega arith
     go false b h = h
 
--- no number up to the longest word's length has more than 19 divisors that are smaller: computed of them all
+-- no number up to the longest word's length has more than 19 divisors but itself: computed of them all
 abbrev fewDivisors : ℕ → Bool
 fewDivisors n = leb (length (keep (λ (d : ℕ). properDivisor d n) (upFrom 1 n))) 19
 
@@ -61,7 +61,7 @@ module _ (w : List ℕ) where
   unfolding fullWords periodWords
   report-length = omega (arith, parts-length, length-map (fullPeriods w) (fullWord (length w)), length-map (periods w) periodWord)
 
-  -- a word has no more full periods than its length has divisors that are smaller
+  -- a word has no more full periods than its length has divisors but itself
   full-few : length w ≤ longest → length (fullPeriods w) ≤ 19
   unfolding fullPeriods isFull
   full-few h =

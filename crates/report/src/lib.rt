@@ -18,7 +18,7 @@ ghost use Rattle.abelian.specs.Refusals.{reportRefusal};
 ghost use Rattle.abelian.specs.Answers.{outcomeOf, answeredWrote, answeredNeeded};
 ghost use Rattle.abelian.specs.Calls.{reporting, reportCount};
 
-// The most full periods of a word: each divides the word's length and is smaller, and no number up to 240 has more such divisors than 240.
+// The most full periods of a word: each divides the word's length and is smaller, and of such divisors no number up to 240 has more than 240.
 const FULL_PERIODS: usize = 19;
 
 // Places enough for the report of every word: one for the head, and as many as there can be full periods, Abelian periods and squares. No report is so

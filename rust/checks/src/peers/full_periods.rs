@@ -1,5 +1,5 @@
-//! Document 002's quasi-linear algorithm for full periods (Figures 1 and 2), without its last line, which adds n: by request C-18 a full
-//! period is smaller.
+//! Document 002's quasi-linear algorithm for full periods (Figures 1 and 2), without the line that adds n: by request C-18 a full period is
+//! smaller.
 use super::{index, word_refusal, write};
 use crate::calls::Answer;
 use luffbutton::{LETTERS, LONGEST};

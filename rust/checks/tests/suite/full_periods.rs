@@ -1,11 +1,12 @@
 //! Full periods (request C-18): a word's length is none, and remains the period of a pair with head 0. Both paths, their counts and a tracker's
 //! pairs with head 0 are held against blocks whose letters are sorted, which is how neither the library nor the second implementation tells
 //! whether they are alike.
-use crate::support::{lent, seeded, shown, tracked, BOTH};
+use crate::support::{lent, not_a_letter, seeded, shown, tracked, BOTH};
 use checks::calls::{Answer, Calls};
 use checks::generator::{abba, alternating, fibonacci, Generator};
 use checks::library::Library;
-use luffbutton::{findings, Finding, Head, Period, FIRST_LETTER, LONGEST, MOST_FULL, MOST_REPORT};
+use luffbutton::{findings, Fields, Finding, Head, Period};
+use luffbutton::{FIRST_LETTER, LONGEST, MOST_FULL, MOST_REPORT};
 
 /// What a list call writes, read.
 fn listed(list: impl FnOnce(&mut [u32]) -> Answer) -> (Answer, Vec<Finding>) {
@@ -31,7 +32,8 @@ fn by_sorting(word: &[u8]) -> Vec<usize> {
 /// Asserts that both paths and their counts have just the full periods that are found by sorting, and so has a tracker that holds the word,
 /// by its pairs with head 0 whose period divides the length and is smaller. The length itself is the period of such a pair. Returns the
 /// full periods.
-fn assert_full(word: &[u8]) -> Vec<usize> {
+fn assert_held(tracker: &Fields) -> Vec<usize> {
+    let word = &tracker.bytes[..tracker.length];
     let _shown = shown(word);
     let (n, due) = (word.len(), by_sorting(word));
     assert!(due.len() <= MOST_FULL);
@@ -45,12 +47,14 @@ fn assert_full(word: &[u8]) -> Vec<usize> {
     assert_eq!(scaled, findings);
     let counted = [Library.count_full(word), Library.count_full_scaled(word)];
     assert_eq!(counted, [Answer::of_words(due.len()); 2]);
-    let tracker = tracked(&Library, word);
     let without_head = |found: Finding| match found {
-        Finding::Period { head, period } if head == Head(0) => Some(period.0),
+        Finding::Period {
+            head: Head(0),
+            period,
+        } => Some(period.0),
         _ => None,
     };
-    let pairs = listed(|out| Library.list(&tracker, out)).1.into_iter();
+    let pairs = listed(|out| Library.list(tracker, out)).1.into_iter();
     let periods: Vec<usize> = pairs.filter_map(without_head).collect();
     let full = periods.iter().copied().filter(|p| n % p == 0 && *p < n);
     assert!(full.eq(due.iter().copied()));
@@ -58,18 +62,23 @@ fn assert_full(word: &[u8]) -> Vec<usize> {
     due
 }
 
+/// The same of a tracker to which the word's letters are added.
+fn assert_full(word: &[u8]) -> Vec<usize> {
+    assert_held(&tracked(&Library, word))
+}
+
 /// The request's words: with s and T as before, and what the report has of them.
 #[test]
 fn words_of_the_request() {
-    let table: [(&[u8], &[usize], (usize, usize)); 6] = [
-        (b"", &[], (0, 0)),
-        (b"a", &[], (1, 1)),
-        (b"aa", &[1], (1, 1)),
-        (b"abb", &[], (3, 1)),
-        (b"abab", &[2], (2, 1)),
-        (b"aabb", &[], (2, 2)),
+    let table: [(&[u8], &[usize], usize, usize); 6] = [
+        (b"", &[], 0, 0),
+        (b"a", &[], 1, 1),
+        (b"aa", &[1], 1, 1),
+        (b"abb", &[], 3, 1),
+        (b"abab", &[2], 2, 1),
+        (b"aabb", &[], 2, 2),
     ];
-    for (word, due, (s, t)) in table {
+    for (word, due, s, t) in table {
         assert_eq!(assert_full(word), due);
         for calls in BOTH {
             let (answer, _) = listed(|out| calls.list_full_scaled(word, out));
@@ -104,7 +113,7 @@ fn blocks(generator: &mut Generator, p: usize, times: usize, k: usize) -> Vec<u8
     word
 }
 
-/// Words that have a full period by how they are made, each half of the length among them, and the same with one letter changed.
+/// Words that have a full period by how they are made, half of the length too where it is even, and the same with one letter changed.
 #[test]
 fn words_of_shuffled_blocks() {
     let mut generator = seeded(180);
@@ -128,4 +137,32 @@ fn words_with_many_cycles() {
             assert_full(&word);
         }
     }
+}
+
+/// After each of a list of calls: adds of shuffled blocks and of bytes that are no letters, take-backs and now and then a clear.
+#[test]
+fn trackers_after_lists_of_calls() {
+    let mut generator = seeded(181);
+    let mut with_full_periods = 0;
+    for _ in 0..60 {
+        let mut tracker = Fields::zero();
+        for _ in 0..12 {
+            let (p, times, k) = (1 + generator.below(6), 1 + generator.below(4), 2);
+            for letter in blocks(&mut generator, p, times, k) {
+                assert_eq!(Library.add(&mut tracker, letter).number, 0);
+                with_full_periods += usize::from(!assert_held(&tracker).is_empty());
+            }
+            let refused = Library.add(&mut tracker, not_a_letter(&mut generator));
+            assert_eq!(refused, Answer::refused(2, 1));
+            for _ in 0..generator.below(12) {
+                Library.take_back(&mut tracker);
+                assert_held(&tracker);
+            }
+            if generator.once_in(8) {
+                assert_eq!(Library.clear(&mut tracker), Answer::default());
+                assert_held(&tracker);
+            }
+        }
+    }
+    assert!(with_full_periods >= 500, "{with_full_periods}");
 }

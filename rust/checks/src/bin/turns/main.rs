@@ -3,13 +3,14 @@
 //!
 //!     rust/turns OLD_ARCHIVE
 //!
-//! prints a table. Both archives' answers, lists and trackers are asserted to be the same before a call is timed. A word with letters that
-//! the older archive does not have is timed on this one alone.
+//! prints a table. Both archives' answers, lists and trackers are asserted to be the same before a call is timed, but for the full period n,
+//! which archives from before request C-18 have. A word with letters that the older archive does not have is timed on this one alone.
 #![deny(unsafe_code)]
 
 mod archives;
 
 use archives::{Archive, CountCall, ListCall, BOTH, COUNTS, LISTS, REPORT};
+use checks::calls::Answer;
 use checks::generator::{timed_words, Word};
 use checks::markdown::{header, row, three_digits};
 use checks::measure::{best, better, mean, on_copies, over_passes, repeated, Timed, Turn};
@@ -23,14 +24,15 @@ fn main() {
 
 /// Times every call once.
 fn pass() -> Vec<Timed> {
-    let list = |(name, list)| over_words(name, |word| time_list(list, word, MOST_REPORT));
+    let list = |(name, list)| over_words(name, |word| time_list(list, word, ENOUGH));
     let mut all: Vec<Timed> = LISTS.into_iter().map(list).collect();
     all.push(over_words("report, as many places as it needs", |word| {
-        let needed = REPORT(&BOTH[0], word, &mut places()).written;
-        time_list(REPORT, word, needed)
+        let needed = |archive: &Archive| REPORT(archive, word, &mut places()).written;
+        let most = readers(word).iter().map(needed).max();
+        time_list(REPORT, word, most.unwrap_or(0))
     }));
-    let count = |(name, count)| over_words(name, |word| time_count(count, word));
-    all.extend(COUNTS.into_iter().map(count));
+    let count = |((name, count), (_, list))| over_words(name, |word| time_count(count, list, word));
+    all.extend(COUNTS.into_iter().zip(LISTS).map(count));
     all.push(over_words("add of the last letter", time_add));
     all.push(over_words("take_back", time_take_back));
     all.push(over_words("list", time_tracker_list));
@@ -49,9 +51,13 @@ fn over_words(call: &'static str, time: impl Fn(&[u8]) -> Vec<f64>) -> Timed {
     }
 }
 
-/// A slice for any list, with places enough that a report is not counted before it is written.
+/// Places enough for any list, so many that no archive counts a report before it is written: one from before request C-18 asks for one more
+/// than this one does.
+const ENOUGH: usize = MOST_REPORT + 1;
+
+/// A slice for any list.
 fn places() -> Vec<u32> {
-    vec![0; MOST_REPORT]
+    vec![0; ENOUGH]
 }
 
 /// The archives that read the word: both, or this one alone where the older one has fewer letters.
@@ -78,12 +84,20 @@ fn assert_same<T: PartialEq>(word: &[u8], given: impl Fn(&Archive) -> T) {
     assert!(same, "they differ on {}", word.escape_ascii());
 }
 
+/// A list call's answer and words, without the full period n.
+fn given(archive: &Archive, list: ListCall, word: &[u8], places: usize) -> (Answer, Vec<u32>) {
+    let mut out = vec![0; places];
+    let mut answer = list(archive, word, &mut out);
+    let whole = (3 << 28) + ((word.len() as u32) << 14) + 1;
+    out.truncate(answer.written);
+    out.retain(|&x| x != whole);
+    answer.written = out.len();
+    (answer, out)
+}
+
 /// Times a list call. The archives share the slice, so that it lies alike for both.
 fn time_list(list: ListCall, word: &[u8], places: usize) -> Vec<f64> {
-    assert_same(word, |archive| {
-        let mut out = vec![0; places];
-        (list(archive, word, &mut out), out)
-    });
+    assert_same(word, |archive| given(archive, list, word, places));
     let out = RefCell::new(vec![0; places]);
     time_readers(word, |archive| {
         let out = &out;
@@ -91,17 +105,15 @@ fn time_list(list: ListCall, word: &[u8], places: usize) -> Vec<f64> {
     })
 }
 
-/// Times a call that writes nothing and changes nothing.
-fn time_call<T: PartialEq>(word: &[u8], call: impl Fn(&Archive) -> T) -> Vec<f64> {
-    assert_same(word, &call);
+/// Times a count. Each archive's is asserted to be the number of words that its own list has.
+fn time_count(count: CountCall, list: ListCall, word: &[u8]) -> Vec<f64> {
+    for archive in readers(word) {
+        let listed = list(archive, word, &mut places());
+        assert_eq!(count(archive, word).words, listed.written);
+    }
     time_readers(word, |archive| {
-        let call = &call;
-        repeated(move || call(archive))
+        repeated(move || count(archive, black_box(word)))
     })
-}
-
-fn time_count(count: CountCall, word: &[u8]) -> Vec<f64> {
-    time_call(word, |archive| count(archive, black_box(word)))
 }
 
 /// A tracker to which the letters were added, by this archive.
@@ -160,7 +172,11 @@ fn time_tracker_list(word: &[u8]) -> Vec<f64> {
 
 fn time_tracker_count(word: &[u8]) -> Vec<f64> {
     let tracker = tracked(word);
-    time_call(word, |archive| archive.count(black_box(&tracker)))
+    assert_same(word, |archive| archive.count(&tracker));
+    time_readers(word, |archive| {
+        let tracker = &tracker;
+        repeated(move || archive.count(black_box(tracker)))
+    })
 }
 
 /// Times a replay that adds the word's letters and lists once.
