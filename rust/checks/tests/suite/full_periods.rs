@@ -1,6 +1,5 @@
 //! Full periods (request C-18): a word's length is none, and remains the period of a pair with head 0. Both paths, their counts and a tracker's
-//! pairs with head 0 are held against blocks whose letters are sorted, which is how neither the library nor the second implementation tells
-//! whether they are alike.
+//! pairs with head 0 are held against blocks whose letters are sorted; neither the library nor the second implementation goes that way.
 use crate::support::{lent, not_a_letter, seeded, shown, tracked, BOTH};
 use checks::calls::{Answer, Calls};
 use checks::generator::{abba, alternating, fibonacci, Generator};
