@@ -91,7 +91,7 @@
  *     luff_list_windows, n places or more           1.0
  *     luff_list_full_scaled, luff_judge             0.4 to 1.0
  *
- * A count took 0.1 to 1.0 times as long as its list on these words and records. A luff_tracker_list and a luff_tracker_count go through
+ * A count took 0.1 to 1.2 times as long as its list on these words and records. A luff_tracker_list and a luff_tracker_count go through
  * the entries of the pairs in range for the letters held, about n * n / 4 of them. A luff_tracker_take_back goes through the whole board,
  * and a luff_tracker_fresh or luff_tracker_clear writes the whole tracker, whatever n is. The time of a luff_tracker_replay grows with the
  * number of its calls, each of which takes as long as an add at 240 letters at most, and one list comes behind them; that number has no

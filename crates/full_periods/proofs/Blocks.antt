@@ -80,15 +80,19 @@ module _ (w : List ℕ) (p : ℕ) where
   pub full-positive : T (isFull w p) → 1 ≤ p
   full-positive t = full-conditions t .range .positive
 
-  -- all blocks of a full period have the first one's vector
-  pub full-alike : T (isFull w p) → (i : ℕ) → i * p < length w → vector (part w (i * p) p) ≡ vector (take p w)
+  -- every block of p letters, from the first on, has the first one's vector
+  abbrev pub BlocksAlike : Type 0
+  BlocksAlike = (i : ℕ) → i * p < length w → vector (part w (i * p) p) ≡ vector (take p w)
+
+  -- those of a full period have it
+  pub full-alike : T (isFull w p) → BlocksAlike
   full-alike t i l =
       let c : Conditions w (pair 0 p) = full-conditions t in
       let s : suc i ≤ length w / p = le-div-iff-mul-le (c .range .positive) .1 (omega (arith, suc-mul i p, next-multiple p (length w) (full-divides t) i l)) in
       ap vector (sym (block-part i)) ∙ c .alike (suc i) (omega arith) (omega (arith, whole-blocks p (length w))) ∙ ap vector block-first
 
   -- and where they have, a divisor of the length is an Abelian period with head 0
-  alike-period : T (ofLetters w) → 0 < length w → p ∣ length w → ((i : ℕ) → i * p < length w → vector (part w (i * p) p) ≡ vector (take p w)) → T (isPeriod w (pair 0 p))
+  alike-period : T (ofLetters w) → 0 < length w → p ∣ length w → BlocksAlike → T (isPeriod w (pair 0 p))
   unfolding block headOf
   alike-period t some d alike =
       conditions-period w (pair 0 p)
@@ -115,7 +119,7 @@ module _ (w : List ℕ) (p : ℕ) where
           ap vector (block-part i) ∙ alike i (omega (arith, l, suc-mul i p)) ∙ ap vector (sym block-first)
 
   -- and a smaller one a full period
-  pub alike-full : T (ofLetters w) → p ∣ length w → p < length w → ((i : ℕ) → i * p < length w → vector (part w (i * p) p) ≡ vector (take p w)) → T (isFull w p)
+  pub alike-full : T (ofLetters w) → p ∣ length w → p < length w → BlocksAlike → T (isFull w p)
   unfolding isFull
   alike-full t d l alike = both (properDivisor p (length w)) (isPeriod w (pair 0 p)) (dvd-proper p (length w) d l) (alike-period t (omega arith) d alike)
 
@@ -148,6 +152,6 @@ whole-not-full w = is-false (isFull w (length w)) (λ t. let b : length w < leng
 pub whole-period : (w : List ℕ) → T (ofLetters w) → 0 < length w → T (isPeriod w (pair 0 (length w)))
 whole-period w t some = alike-period w (length w) t some (dvd-refl (length w)) alike
   where
-    alike : (i : ℕ) → i * length w < length w → vector (part w (i * length w) (length w)) ≡ vector (take (length w) w)
+    alike : BlocksAlike w (length w)
     alike zero l = ap (λ (k : ℕ). vector (part w k (length w))) (zero-mul (length w))
     alike (suc i) l = absurd (omega (arith, suc-mul i (length w)))
