@@ -92,8 +92,8 @@
  *     luff_list_full_scaled, luff_judge             0.4 to 1.0
  *
  * A count took 0.1 to 1.2 times as long as its list on these words and records. A luff_tracker_list and a luff_tracker_count go through
- * the entries of the pairs in range for the letters held, about n * n / 4 of them. A luff_tracker_take_back goes through the whole board,
- * and a luff_tracker_fresh or luff_tracker_clear writes the whole tracker, whatever n is. The time of a luff_tracker_replay grows with the
+ * the entries of the pairs in range for the letters held, about n * n / 4 of them. A luff_tracker_take_back goes through the whole board
+ * and then through these entries, and a luff_tracker_fresh or luff_tracker_clear writes the whole tracker, whatever n is. The time of a luff_tracker_replay grows with the
  * number of its calls, each of which takes as long as an add at 240 letters at most, and one list comes behind them; that number has no
  * bound.
  */
@@ -111,7 +111,7 @@ extern "C" {
 #endif
 
 /* The version of this interface. It rises with each change of an answer or of a layout, and with each function that joins. */
-#define LUFF_VERSION 9
+#define LUFF_VERSION 10
 
 /* The byte of the first letter, a, and how many letters there are. */
 #define LUFF_FIRST_LETTER 97
@@ -362,8 +362,13 @@ struct luff_cover luff_find_cover(const uint8_t *word, size_t n);
 
 /*
  * A tracker: a word that grows and shrinks at its end. bytes holds the letters and 0 beyond the length. board has an entry for each pair
- * in range for LUFF_LONGEST, by p and then h: the ended length of the pair. It takes 14,768 bytes. Make one by luff_tracker_fresh or
- * luff_tracker_replay and change it by its calls alone, given below.
+ * in range for LUFF_LONGEST, by p and then h: the ended length of the pair. live and ended are totals for a screen: how many pairs in range
+ * for the length have the entry 0, which are as many as a list writes, and how many have another. Their sum is the number of pairs in range,
+ * (n + 1) / 2 times (n + 2) / 2, both rounded down. It takes 14,784 bytes. Make one by luff_tracker_fresh or luff_tracker_replay and change
+ * it by its calls alone, given below.
+ *
+ * Each add, take-back and clear that is accepted sets live and ended from the board that it leaves, whatever stood there. No call reads them:
+ * no answer depends on them, and a tracker is not damaged by them. A call that is refused, a list and a count leave them as they are.
  *
  * A copy of it is a tracker too. But what is kept for long or sent elsewhere should be the letters (bytes, as many as length says), and the
  * tracker be made from them by luff_tracker_replay: a call checks length and letters and not the board, so that a byte of the board that
@@ -375,6 +380,8 @@ struct luff_tracker {
     size_t length;
     uint8_t bytes[LUFF_LONGEST];
     uint8_t board[LUFF_BOARD];
+    size_t live;
+    size_t ended;
 };
 
 /* In a list of calls for luff_tracker_replay: the byte that takes back the last letter, and the byte that clears. */
@@ -382,44 +389,47 @@ struct luff_tracker {
 #define LUFF_CALL_CLEAR 33
 
 /*
- * The tracker's calls by its fields, for languages that cannot use the inline functions below: length leads to one number, bytes to
- * LUFF_LONGEST bytes and board to LUFF_BOARD. A program in C uses the functions below, which take the tracker whole.
+ * The tracker's calls by its fields, for languages that cannot use the inline functions below: length, live and ended lead to one number
+ * each, bytes to LUFF_LONGEST bytes and board to LUFF_BOARD. A list and a count take neither live nor ended. A program in C uses the
+ * functions below, which take the tracker whole.
  */
-void luff_tracker_fresh_fields(size_t *LUFF_RESTRICT length, uint8_t *LUFF_RESTRICT bytes, uint8_t *LUFF_RESTRICT board);
+void luff_tracker_fresh_fields(size_t *LUFF_RESTRICT length, uint8_t *LUFF_RESTRICT bytes, uint8_t *LUFF_RESTRICT board,
+                               size_t *LUFF_RESTRICT live, size_t *LUFF_RESTRICT ended);
 struct luff_outcome luff_tracker_add_fields(size_t *LUFF_RESTRICT length, uint8_t *LUFF_RESTRICT bytes, uint8_t *LUFF_RESTRICT board,
-                                            uint8_t letter);
-struct luff_outcome luff_tracker_take_back_fields(size_t *LUFF_RESTRICT length, uint8_t *LUFF_RESTRICT bytes,
-                                                  uint8_t *LUFF_RESTRICT board);
-struct luff_outcome luff_tracker_clear_fields(size_t *LUFF_RESTRICT length, uint8_t *LUFF_RESTRICT bytes, uint8_t *LUFF_RESTRICT board);
+                                            size_t *LUFF_RESTRICT live, size_t *LUFF_RESTRICT ended, uint8_t letter);
+struct luff_outcome luff_tracker_take_back_fields(size_t *LUFF_RESTRICT length, uint8_t *LUFF_RESTRICT bytes, uint8_t *LUFF_RESTRICT board,
+                                                  size_t *LUFF_RESTRICT live, size_t *LUFF_RESTRICT ended);
+struct luff_outcome luff_tracker_clear_fields(size_t *LUFF_RESTRICT length, uint8_t *LUFF_RESTRICT bytes, uint8_t *LUFF_RESTRICT board,
+                                              size_t *LUFF_RESTRICT live, size_t *LUFF_RESTRICT ended);
 struct luff_wrote luff_tracker_list_fields(size_t length, const uint8_t *LUFF_RESTRICT bytes, const uint8_t *LUFF_RESTRICT board,
                                            uint32_t *LUFF_RESTRICT out, size_t places);
 struct luff_counted luff_tracker_count_fields(size_t length, const uint8_t *LUFF_RESTRICT bytes, const uint8_t *LUFF_RESTRICT board);
 struct luff_replayed luff_tracker_replay_fields(const uint8_t *LUFF_RESTRICT calls, size_t n, uint32_t *LUFF_RESTRICT out, size_t places,
-                                                size_t *LUFF_RESTRICT length, uint8_t *LUFF_RESTRICT bytes,
-                                                uint8_t *LUFF_RESTRICT board);
+                                                size_t *LUFF_RESTRICT length, uint8_t *LUFF_RESTRICT bytes, uint8_t *LUFF_RESTRICT board,
+                                                size_t *LUFF_RESTRICT live, size_t *LUFF_RESTRICT ended);
 
 /* Makes the tracker fresh, all zero, whatever stood there: it holds the empty word. */
 static inline void luff_tracker_fresh(struct luff_tracker *tracker)
 {
-    luff_tracker_fresh_fields(&tracker->length, tracker->bytes, tracker->board);
+    luff_tracker_fresh_fields(&tracker->length, tracker->bytes, tracker->board, &tracker->live, &tracker->ended);
 }
 
 /* The letter joins the end, and each pair with entry 0 that is then in range and no Abelian period is ended. Refusals 6, 2, 4. */
 static inline struct luff_outcome luff_tracker_add(struct luff_tracker *tracker, uint8_t letter)
 {
-    return luff_tracker_add_fields(&tracker->length, tracker->bytes, tracker->board, letter);
+    return luff_tracker_add_fields(&tracker->length, tracker->bytes, tracker->board, &tracker->live, &tracker->ended, letter);
 }
 
 /* The last letter goes, and each pair that ended with it has entry 0 again. Refusals 6, 5. */
 static inline struct luff_outcome luff_tracker_take_back(struct luff_tracker *tracker)
 {
-    return luff_tracker_take_back_fields(&tracker->length, tracker->bytes, tracker->board);
+    return luff_tracker_take_back_fields(&tracker->length, tracker->bytes, tracker->board, &tracker->live, &tracker->ended);
 }
 
 /* Makes any tracker fresh, also a damaged one. It is always accepted. */
 static inline struct luff_outcome luff_tracker_clear(struct luff_tracker *tracker)
 {
-    return luff_tracker_clear_fields(&tracker->length, tracker->bytes, tracker->board);
+    return luff_tracker_clear_fields(&tracker->length, tracker->bytes, tracker->board, &tracker->live, &tracker->ended);
 }
 
 /*
@@ -444,7 +454,8 @@ static inline struct luff_counted luff_tracker_count(const struct luff_tracker *
 static inline struct luff_replayed luff_tracker_replay(struct luff_tracker *tracker, const uint8_t *LUFF_RESTRICT calls, size_t n,
                                                        uint32_t *LUFF_RESTRICT out, size_t places)
 {
-    return luff_tracker_replay_fields(calls, n, out, places, &tracker->length, tracker->bytes, tracker->board);
+    return luff_tracker_replay_fields(calls, n, out, places, &tracker->length, tracker->bytes, tracker->board, &tracker->live,
+                                      &tracker->ended);
 }
 
 #ifdef __cplusplus

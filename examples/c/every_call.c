@@ -148,7 +148,7 @@ static void list_tracker(const char *name)
     print_list(luff_tracker_list(&tracker, out, PLACES));
     printf("%s %.*s", name, (int)tracker.length, (const char *)tracker.bytes);
     print_counted("count", luff_tracker_count(&tracker));
-    printf("\n");
+    printf(", live %zu, ended %zu\n", tracker.live, tracker.ended);
 }
 
 static void print_outcome(const char *name, struct luff_outcome x)
@@ -174,8 +174,8 @@ static void track(void)
 static void replay(const char *calls, size_t places)
 {
     struct luff_replayed x = luff_tracker_replay(&tracker, bytes(calls), strlen(calls), out, places);
-    printf("replay %s, %zu places: %zu %zu, refused %zu, holds %.*s:", calls, places, x.refusal, x.value, x.refused, (int)tracker.length,
-           (const char *)tracker.bytes);
+    printf("replay %s, %zu places: %zu %zu, refused %zu, holds %.*s, live %zu, ended %zu:", calls, places, x.refusal, x.value, x.refused,
+           (int)tracker.length, (const char *)tracker.bytes, tracker.live, tracker.ended);
     print_words(x.written);
 }
 

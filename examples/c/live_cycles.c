@@ -1,6 +1,7 @@
 /*
- * Tracks a stream of upstream events, takes some of them back and prints the live cycles: the Abelian periods (h, p) of the events so far,
- * a head of h events and blocks of p events with the same mix of letters. In the stream - takes back the last event and ! starts anew.
+ * Tracks a stream of upstream events, takes some of them back and prints after each how many cycles are live and how many have ended, and
+ * the live ones: the Abelian periods (h, p) of the events so far, a head of h events and blocks of p events with the same mix of letters. In
+ * the stream - takes back the last event and ! starts anew.
  */
 #include <stdio.h>
 
@@ -9,7 +10,7 @@
 static struct luff_tracker tracker;
 static uint32_t cycles[LUFF_MOST_PERIODS];
 
-/* Prints the letters held and the live cycles, head first. */
+/* Prints the letters held, the totals that the tracker keeps, and the live cycles, head first. */
 static void print_live(void)
 {
     struct luff_wrote list = luff_tracker_list(&tracker, cycles, LUFF_MOST_PERIODS);
@@ -17,7 +18,7 @@ static void print_live(void)
         printf("not listed\n");
         return;
     }
-    printf("%.*s: %zu live", (int)tracker.length, (const char *)tracker.bytes, list.written);
+    printf("%.*s: %zu live, %zu ended:", (int)tracker.length, (const char *)tracker.bytes, tracker.live, tracker.ended);
     for (size_t i = 0; i < list.written; i++) {
         printf(" (%u,%u)", (unsigned)LUFF_WORD_LOWER(cycles[i]), (unsigned)LUFF_WORD_UPPER(cycles[i]));
     }

@@ -10,4 +10,5 @@ pub mod Runs
 pub mod Windows
 pub mod Refusals
 pub mod CountAndWrite
+pub mod Totals
 pub mod Marked

@@ -1,7 +1,7 @@
 -- Laws of the functions on lists that the definitions are made of.
 use mathlib.Core.Path.{_≡_, refl, sym, ap, subst, _∙_}
 use mathlib.Core.Logic.{_⊎_, inl, inr, ⊎-elim, _≢_}
-use mathlib.Core.Bool.{Bool, true, false, _&&_}
+use mathlib.Core.Bool.{Bool, true, false, not, _&&_}
 use mathlib.Core.List.{List, [], _∷_, _++_, map, append-assoc, append-nil, List·Memᴰ, List·Memᴰ·head, List·Memᴰ·tail, List·Memᴰ·cases-cons, List·Memᴰ·append-cases, Memᴰ·append-left, Memᴰ·append-right, Memᴰ·of-map, List·Memᴰ·not-nil}
 use Prim.Native.Nat.{ℕ, zero, suc, _+_, _*_, _≤_, _<_}
 use native.Mathlib.Nat.{mul-suc}
@@ -147,6 +147,18 @@ keep-shorter f [] = omega arith
 keep-shorter f (x ∷ xs) = go (f x) (keep-shorter f xs)
   where
     go : (b : Bool) → length (keep f xs) ≤ length xs → length (put b x (keep f xs)) ≤ suc (length xs)
+    go true h = omega arith
+    go false h = omega arith
+
+-- what passes a test and what fails it are together as many as there are
+pub keep-or-not : {A : Type 0} (f : A → Bool) (xs : List A) → length (keep f xs) + length (keep (λ (x : A). not (f x)) xs) ≡ length xs
+keep-or-not f [] = refl
+keep-or-not {A} f (x ∷ xs) = go (f x) (keep-or-not f xs)
+  where
+    others : List A
+    others = keep (λ (y : A). not (f y)) xs
+
+    go : (b : Bool) → length (keep f xs) + length others ≡ length xs → length (put b x (keep f xs)) + length (put (not b) x others) ≡ suc (length xs)
     go true h = omega arith
     go false h = omega arith
 

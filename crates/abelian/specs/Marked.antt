@@ -58,6 +58,8 @@ pub data Row : Type 0 where
   tracks : Tracker → List ℕ → Pair → ℕ → List Pair → Row
   -- a tracker's board
   boardIs : Tracker → List ℕ → Row
+  -- a tracker's live and ended
+  totalsAre : Tracker → ℕ → ℕ → Row
 
 -- the entry of a pair on a board
 unfoldable pub entryOf : Pair → List ℕ → ℕ
@@ -98,6 +100,7 @@ rowHolds (tracks t bytes x e xs) =
     same (take (suc (t .len)) (t .bytes)) bytes && eqb (entryOf x (t .board)) e
     && sameAnswer (trackerListing t (replicate (length xs) 0) .answer) (writing (length xs) 0 0 0 (map periodWord xs))
 rowHolds (boardIs t es) = same (t .board) es
+rowHolds (totalsAre t live ended) = eqb (t .live) live && eqb (t .ended) ended
 
 -- the letters of the words below
 abbrev a : ℕ
@@ -126,9 +129,9 @@ beyond = firstLetter + alphabetSize
 abbrev B : ℕ
 B = 66
 
--- a tracker with these fields, that no calls have made
+-- a tracker with these fields, that no calls have made; its totals are those of none of the boards below
 abbrev made : ℕ → List ℕ → List ℕ → Tracker
-made n bytes board = record { len = n; bytes = bytes; board = board }
+made n bytes board = record { len = n; bytes = bytes; board = board; live = 70; ended = 80 }
 
 -- the tracker after one letter more, and after a take-back
 abbrev then : Tracker → ℕ → Tracker
@@ -280,6 +283,13 @@ ayaz = a ∷ y ∷ a ∷ z ∷ []
 abbrev aa : List ℕ
 aa = a ∷ a ∷ []
 
+-- a tracker of C-19's rows that no calls have made, and one with short arrays that has been given the letters of P8
+abbrev two : Tracker
+two = made 2 (a ∷ a ∷ 0 ∷ []) (7 ∷ 0 ∷ [])
+
+abbrev eight : Tracker
+eight = then (then (then (then (then (then (then (then (made 0 (replicate 9 0) (replicate 36 0)) a) b) a) a) b) a) b) a
+
 -- Rows of document 02.
 unfoldable pub requested : List Row
 requested =
@@ -426,4 +436,28 @@ requested =
     -- the pair of head 0 and the length remains an Abelian period
     ∷ periodsAre abb (pair 0 2 ∷ pair 0 3 ∷ [])
     ∷ judgedYes abb (pair 0 3)
+    -- C-19: the totals of a fresh tracker, and of one with a, b, b
+    ∷ totalsAre freshTracker 0 0
+    ∷ totalsAre given 2 2
+    -- an add counts by the new length and the board that it leaves, a take-back too, whatever stood in the totals; entries beyond the pairs in range
+    -- do not count
+    ∷ totalsAre (then (made 2 (a ∷ b ∷ 0 ∷ []) (2 ∷ 0 ∷ 0 ∷ 5 ∷ 0 ∷ 9 ∷ [])) b) 1 3
+    ∷ totalsAre (back (made 3 (a ∷ a ∷ a ∷ []) (3 ∷ 0 ∷ 3 ∷ 7 ∷ []))) 2 0
+    ∷ totalsAre eight 16 4
+    ∷ totalsAre (back (back eight)) 10 2
+    -- at the longest length
+    ∷ totalsAre (then (made 239 (replicate 240 a) (replicate 14520 1)) b) 0 14520
+    ∷ totalsAre (back (made 240 (replicate 240 a) (replicate 14520 240))) 14400 0
+    -- a clear, whatever the board was
+    ∷ totalsAre (clearing (made 241 [] []) .tracker) 0 0
+    ∷ totalsAre (clearing two .tracker) 0 0
+    -- refused calls keep them: an add with 2, 4 and 6, a take-back with 5 and 6, a list with 3; and so do an accepted list and a count
+    ∷ totalsAre (then (made 1 (a ∷ 0 ∷ []) (0 ∷ 9 ∷ 0 ∷ [])) B) 70 80
+    ∷ totalsAre (then (made 240 (replicate 240 a) []) a) 70 80
+    ∷ totalsAre (then (made 241 [] (0 ∷ [])) a) 70 80
+    ∷ totalsAre (back (made 0 [] (0 ∷ []))) 70 80
+    ∷ totalsAre (back (made 1 (B ∷ []) (0 ∷ []))) 70 80
+    ∷ totalsAre (trackerListing two [] .tracker) 70 80
+    ∷ totalsAre (trackerListing two (5 ∷ []) .tracker) 70 80
+    ∷ totalsAre (trackerCount two .tracker) 70 80
     ∷ []

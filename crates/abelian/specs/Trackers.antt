@@ -24,10 +24,6 @@ pub record Step : Type 0 where
 unfoldable pub boardSize : ℕ
 boardSize = 14520
 
--- A fresh tracker: all zero.
-unfoldable pub freshTracker : Tracker
-freshTracker = record { len = 0; bytes = replicate longest 0; board = replicate boardSize 0 }
-
 -- "6": the length is above 240, or a byte within the length is no letter
 unfoldable pub damagedBytes : ℕ → List ℕ → Bool
 damagedBytes n bytes = ltb longest n || not (ofLetters (take n bytes))
@@ -47,6 +43,33 @@ pairsWhere f [] es = []
 pairsWhere f (x ∷ xs) [] = []
 pairsWhere f (x ∷ xs) (e ∷ es) = put (f x e) x (pairsWhere f xs es)
 
+-- the pairs in range for n whose entry on a board is 0, in pair order: those that a list writes
+unfoldable pub openPairs : ℕ → List ℕ → List Pair
+openPairs n board = pairsWhere (λ (x : Pair) (e : ℕ). inRange n x && eqb e 0) (pairs longest) board
+
+-- and those whose entry isn't 0
+unfoldable pub endedPairs : ℕ → List ℕ → List Pair
+endedPairs n board = pairsWhere (λ (x : Pair) (e : ℕ). inRange n x && not (eqb e 0)) (pairs longest) board
+
+-- A tracker's two totals (C-19).
+pub record Totals : Type 0 where
+  pub live : ℕ
+  pub ended : ℕ
+
+-- "live, the number of pairs in range for its length whose entry is 0, and ended, the number whose entry isn't"
+unfoldable pub totals : ℕ → List ℕ → Totals
+totals n board = record { live = length (openPairs n board); ended = length (endedPairs n board) }
+
+-- the tracker of this length, these bytes and this board, with the totals of the length and the board: "Each accepted add, take-back and clear sets both
+-- from the board that it leaves, also in a tracker that no calls have made."
+abbrev pub withTotals : ℕ → List ℕ → List ℕ → Tracker
+withTotals n bytes board =
+    record { len = n; bytes = bytes; board = board; live = totals n board .live; ended = totals n board .ended }
+
+-- A fresh tracker: all zero, the totals too, since no pair is in range for 0.
+unfoldable pub freshTracker : Tracker
+freshTracker = withTotals 0 (replicate longest 0) (replicate boardSize 0)
+
 -- what a call leaves: the tracker as it came where it is refused, and the new one where it is accepted
 unfoldable pub stepUnless : Option Refusal → List ℕ → Tracker → Step → Step
 stepUnless none out t new = new
@@ -60,7 +83,7 @@ entryAdded w x e = pick (eqb e 0 && inRange (length w) x && not (isPeriod w x)) 
 unfoldable pub added : Tracker → ℕ → Tracker
 added t b =
     let bytes : List ℕ = set (t .bytes) (t .len) b in
-    record { len = suc (t .len); bytes = bytes; board = entries (entryAdded (take (suc (t .len)) bytes)) (pairs longest) (t .board) }
+    withTotals (suc (t .len)) bytes (entries (entryAdded (take (suc (t .len)) bytes)) (pairs longest) (t .board))
 
 -- "Add": refusals 6, 2, 4; else the letter is stored, and each zero entry whose pair is then in range and no Abelian period is set to the new length.
 unfoldable pub adding : Tracker → ℕ → Step
@@ -71,7 +94,7 @@ adding t b =
 -- the tracker with its last letter gone: the last byte and each entry equal to the old length are 0
 unfoldable pub shortened : Tracker → Tracker
 shortened t =
-    record { len = t .len - 1; bytes = set (t .bytes) (t .len - 1) 0; board = map (λ (e : ℕ). pick (eqb e (t .len)) 0 e) (t .board) }
+    withTotals (t .len - 1) (set (t .bytes) (t .len - 1) 0) (map (λ (e : ℕ). pick (eqb e (t .len)) 0 e) (t .board))
 
 -- "Take-back": refusals 6, 5; else the last letter goes.
 unfoldable pub takingBack : Tracker → Step
@@ -83,11 +106,7 @@ takingBack t =
 unfoldable pub clearing : Tracker → Step
 clearing t = record { tracker = freshTracker; answer = accepting }
 
--- the pairs in range for n whose entry on a board is 0, in pair order
-unfoldable pub openPairs : ℕ → List ℕ → List Pair
-openPairs n board = pairsWhere (λ (x : Pair) (e : ℕ). inRange n x && eqb e 0) (pairs longest) board
-
--- and their words
+-- the words of the pairs that a list writes
 abbrev pub openWords : ℕ → List ℕ → List ℕ
 openWords n board = map periodWord (openPairs n board)
 

@@ -132,11 +132,14 @@ pub enum Outcome {
     Refused(Refusal),
 }
 
-// A word that grows and shrinks by letters: its length, its letters, and a board with an entry for each pair in range for 240, in
-// pair order. In a tracker that calls from a fresh one have made, the bytes beyond the length are 0 and each entry is its pair's ended
-// length.
+// A word that grows and shrinks by letters: its length, its letters, a board with an entry for each pair in range for 240, in pair
+// order, and two totals: live, the number of pairs in range for the length whose entry is 0, and ended, the number whose entry isn't. In a
+// tracker that calls from a fresh one have made, the bytes beyond the length are 0 and each entry is its pair's ended length. Each accepted
+// add, take-back and clear sets both totals; no answer depends on them, and a tracker that no calls have made may hold anything there.
 pub struct Tracker {
     pub len: usize,
     pub bytes: [u8; LONGEST],
     pub board: [u8; BOARD],
+    pub live: usize,
+    pub ended: usize,
 }

@@ -4,6 +4,7 @@ use mathlib.Core.Logic.{⊎-elim, _≢_}
 use mathlib.Core.Bool.{Bool, true, false, _&&_, and-false}
 use mathlib.Core.List.{List, [], _∷_, _++_, map, map-append}
 use Prim.Native.Nat.{ℕ, zero, suc, _+_, _-_, _*_, _≤_, _<_}
+use native.Mathlib.Numerals.{add-one}
 use native.Mathlib.Omega.{arith}
 use lib.ListN.{length, set, length-append}
 use lib.Seq.{set-getD}
@@ -14,13 +15,13 @@ use Rattle.abelian.specs.Words.{longest}
 use Rattle.abelian.specs.Periods.{Pair, pair, inRange, heads, row, pairs, isPeriod}
 use Rattle.abelian.specs.EndedLengths.{boardOf}
 use Rattle.abelian.specs.Trackers.{boardSize, entries, entryAdded}
-use Rattle.abelian.proofs.Tests.{is-false, decided}
+use Rattle.abelian.proofs.Tests.{is-true, is-false, decided}
 use Rattle.abelian.proofs.Lists.{keep-append, keep-agree, keep-shorter, upFrom-last}
 use Rattle.abelian.proofs.Pairs.{InRange, in-range, range-in, in-range-longer, mem-row}
 use Rattle.periods.proofs.PairCount.{length-row}
 use Rattle.board.specs.Places.{placeOf, entryAt, isOpen}
-use Rattle.board.specs.Ending.{entryInRow, rowEnded, rowOpen}
-use Rattle.board.proofs.Places.{boardOf-at, boardOf-agree, board-of-entries, entries-of, entries-boardOf, set-boardOf, place-injective}
+use Rattle.board.specs.Ending.{entryInRow, rowEnded, rowOpen, allEnded}
+use Rattle.board.proofs.Places.{length-boardOf, boardOf-at, boardOf-agree, board-of-entries, entries-of, entries-boardOf, set-boardOf, place-injective}
 use Rattle.board.proofs.Rows.{openUpTo, openUpTo-more, heads-le}
 
 -- a pair that is not in range keeps its entry
@@ -145,6 +146,85 @@ open-below board p h e = openBelow-more board p h ∙ ap (λ (b : Bool). length 
 pub ended-below : (board : List ℕ) (p h : ℕ) → entryAt board (pair h p) ≢ 0 → length (openBelow board p (suc h)) ≡ length (openBelow board p h) + 0
 ended-below board p h n = openBelow-more board p h ∙ ap (λ (b : Bool). length (openBelow board p h) + one b) (ne-eqb (entryAt board (pair h p)) 0 n)
 
+-- the entry of a pair of the row, after the row has been gone through
+row-entry : (w board : List ℕ) (h p : ℕ) → length board ≡ boardSize → T (inRange longest (pair h p))
+    → entryAt (rowEnded w p board) (pair h p) ≡ entryAdded w (pair h p) (entryAt board (pair h p))
+unfolding rowEnded entryInRow
+row-entry w board h p long i =
+    ap (λ (b : List ℕ). entryAt b (pair h p)) (entries-of (entryInRow (entryAdded w) p) board long)
+    ∙ boardOf-at (λ (x : Pair). entryInRow (entryAdded w) p x (entryAt board x)) (pair h p) i
+    ∙ rw (eq-eqb p p refl)
+
+-- the row of p has been gone through up to the head h: how many pairs were tried, how many of them are live, and what is left
+pub record RowGone (w old : List ℕ) (p : ℕ) (board : List ℕ) (tried live h : ℕ) : Type 0 where
+  pub few-tried : tried ≤ h
+  pub few-live : live ≤ h
+  pub counted : tried ≡ length (openBelow old p h)
+  pub left-open : live ≡ length (openBelow (rowEnded w p old) p h)
+  pub ended : board ≡ boardOf (below (entryAdded w) p h old)
+
+module _ (w old : List ℕ) (p : ℕ) (long : length old ≡ boardSize) where
+  pub no-head-gone : RowGone w old p old 0 0 0
+  no-head-gone = record { few-tried = omega arith; few-live = omega arith; counted = refl; left-open = refl; ended = none-below (entryAdded w) p old long }
+
+  module _ {board : List ℕ} {tried live h : ℕ} (g : RowGone w old p board tried live h) (r : InRange (length w) (pair h p)) (i : T (inRange longest (pair h p))) where
+    abbrev x : Pair
+    x = pair h p
+
+    abbrev e : ℕ
+    e = entryAt old x
+
+    -- the entry that is read is the old one
+    pub entry-read : entryAt board x ≡ e
+    entry-read = ap (λ (b : List ℕ). entryAt b x) (g .ended) ∙ entry-untouched (entryAdded w) p old long h i
+
+    abbrev new : ℕ
+    new = entryAt (rowEnded w p old) x
+
+    kept : entryAdded w x e ≡ e → board ≡ boardOf (below (entryAdded w) p (suc h) old)
+    kept k = g .ended ∙ kept-below (entryAdded w) p old long h i k
+
+    -- a pair that had ended is passed
+    pub head-passed : e ≢ 0 → RowGone w old p board tried live (h + 1)
+    head-passed n =
+        let k : entryAdded w x e ≡ e = ended-kept w x e n in
+        let m : new ≢ 0 = λ z. n (sym k ∙ sym (row-entry w old h p long i) ∙ z) in
+        rw add-one
+        (record {
+          few-tried = omega (arith, g .few-tried);
+          few-live = omega (arith, g .few-live);
+          counted = omega (arith, g .counted, ended-below old p h n);
+          left-open = omega (arith, g .left-open, ended-below (rowEnded w p old) p h m);
+          ended = kept k;
+        })
+
+    -- an open pair that is an Abelian period is live
+    pub head-live : e ≡ 0 → isPeriod w x ≡ true → RowGone w old p board (tried + 1) (live + 1) (h + 1)
+    head-live z t =
+        let k : entryAdded w x e ≡ e = period-kept w x e t in
+        rw (add-one h)
+        (record {
+          few-tried = omega (arith, g .few-tried);
+          few-live = omega (arith, g .few-live);
+          counted = omega (arith, g .counted, open-below old p h z);
+          left-open = omega (arith, g .left-open, open-below (rowEnded w p old) p h (row-entry w old h p long i ∙ k ∙ z));
+          ended = kept k;
+        })
+
+    -- and one that is none ends
+    pub head-ended : e ≡ 0 → isPeriod w x ≡ false → RowGone w old p (set board (placeOf x) (length w)) (tried + 1) live (h + 1)
+    head-ended z f =
+        let k : entryAdded w x e ≡ length w = open-ended w x e z (is-true (inRange (length w) x) (range-in (length w) x r)) f in
+        let n : new ≢ 0 = λ q. let q′ : length w ≡ 0 = sym k ∙ sym (row-entry w old h p long i) ∙ q in omega (arith, r .positive, r .fits) in
+        rw (add-one h)
+        (record {
+          few-tried = omega (arith, g .few-tried);
+          few-live = omega (arith, g .few-live);
+          counted = omega (arith, g .counted, open-below old p h z);
+          left-open = omega (arith, g .left-open, ended-below (rowEnded w p old) p h n);
+          ended = ap₂ (λ b v. set b (placeOf x) v) (g .ended) (sym k) ∙ next-below (entryAdded w) p old long h i;
+        })
+
 -- ---- a board, row by row
 
 -- the rows up to m gone through
@@ -189,6 +269,20 @@ module _ (f : Pair → ℕ → ℕ) (board : List ℕ) (long : length board ≡ 
       let e : upTo f m board x ≡ entryAt board x = rw later in
       ap (λ (k : ℕ). eqb k 0) (boardOf-at (upTo f m board) x t ∙ e))
 
+  -- and one that has just been gone through is open as it will be
+  pub row-gone : (m n : ℕ) → n ≤ longest → rowOpen n (boardOf (upTo f (suc m) board)) (suc m) ≡ keep (isOpen (entries f (pairs longest) board)) (row n (suc m))
+  unfolding rowOpen
+  row-gone m n u =
+      keep-agree (isOpen (boardOf (upTo f (suc m) board))) (isOpen (entries f (pairs longest) board)) (row n (suc m))
+      (λ x i.
+      let r : InRange n x × (x .period ≡ suc m) = mem-row n (suc m) (omega arith) i in
+      let t : T (inRange longest x) = range-in longest x (in-range-longer (r .0) u) in
+      let gone : leb (x .period) (suc m) ≡ true = le-leb (x .period) (suc m) (omega (arith, r .1)) in
+      let e : upTo f (suc m) board x ≡ f x (entryAt board x) = rw gone in
+      ap (λ (k : ℕ). eqb k 0)
+      (boardOf-at (upTo f (suc m) board) x t ∙ e
+      ∙ sym (ap (λ (b : List ℕ). entryAt b x) (entries-of f board long) ∙ boardOf-at (λ (y : Pair). f y (entryAt board y)) x t)))
+
   -- all rows, where f keeps what is not in range for n
   pub all-upTo : (n : ℕ) → ((x : Pair) (e : ℕ) → inRange n x ≡ false → f x e ≡ e) → boardOf (upTo f n board) ≡ entries f (pairs longest) board
   all-upTo n kept =
@@ -202,12 +296,19 @@ module _ (f : Pair → ℕ → ℕ) (board : List ℕ) (long : length board ≡ 
           (is-false (inRange n x) (λ t. let r : InRange n x = in-range n x t in let k : n < x .period = leb-false (x .period) n l in omega (arith, r .fits))))))
           (decided (leb (x .period) n))
 
--- the rows below p have been gone through: how many pairs were tried, and what is left
-pub record Gone (w old board : List ℕ) (trials p : ℕ) : Type 0 where
+-- a board has as many entries after all rows
+pub length-ended : (w board : List ℕ) → length board ≡ boardSize → length (allEnded w board) ≡ boardSize
+unfolding allEnded
+length-ended w board long = ap length (entries-of (entryAdded w) board long) ∙ length-boardOf (λ (x : Pair). entryAdded w x (entryAt board x))
+
+-- the rows below p have been gone through: how many pairs were tried, how many of them are live, and what is left
+pub record Gone (w old board : List ℕ) (tried live p : ℕ) : Type 0 where
   pub from : 1 ≤ p
   pub to : p ≤ suc (length w)
-  pub few : trials ≤ (p - 1) * longest
-  pub counted : trials ≡ length (openUpTo (length w) old (p - 1))
+  pub few-tried : tried ≤ (p - 1) * longest
+  pub few-live : live ≤ (p - 1) * longest
+  pub counted : tried ≡ length (openUpTo (length w) old (p - 1))
+  pub left-open : live ≡ length (openUpTo (length w) (allEnded w old) (p - 1))
   pub ended : board ≡ boardOf (upTo (entryAdded w) (p - 1) old)
 
 -- a row has no more open pairs than heads
@@ -215,29 +316,42 @@ pub few-in-row : (w board : List ℕ) (p : ℕ) → p ≤ length w → length w 
 unfolding rowOpen
 few-in-row w board p l u = omega (arith, keep-shorter (isOpen board) (row (length w) p), length-row (length w) p, heads-le (length w) p)
 
-pub none-gone : (w old : List ℕ) → length old ≡ boardSize → Gone w old old 0 1
-none-gone w old long = record { from = omega arith; to = omega arith; few = omega arith; counted = refl; ended = none-upTo (entryAdded w) old long }
+pub none-gone : (w old : List ℕ) → length old ≡ boardSize → Gone w old old 0 0 1
+none-gone w old long =
+    record { from = omega arith; to = omega arith; few-tried = omega arith; few-live = omega arith; counted = refl; left-open = refl; ended = none-upTo (entryAdded w) old long }
 
-few-more : (trials r m : ℕ) → trials ≤ (suc m - 1) * longest → r ≤ longest → trials + r ≤ (suc m + 1 - 1) * longest
+few-more : (k r m : ℕ) → k ≤ (suc m - 1) * longest → r ≤ longest → k + r ≤ (suc m + 1 - 1) * longest
 unfolding longest
-few-more trials r m f g = omega arith
+few-more k r m f g = omega arith
 
-pub next-gone : (w old board board′ : List ℕ) (trials r p : ℕ) → length old ≡ boardSize → length w ≤ longest → p ≤ length w → Gone w old board trials p
-    → r ≡ length (rowOpen (length w) board p) → board′ ≡ rowEnded w p board → Gone w old board′ (trials + r) (p + 1)
-unfolding rowEnded
-next-gone w old board board′ trials r zero long u l g e f = absurd (omega (arith, g .from))
-next-gone w old board board′ trials r (suc m) long u l g e f =
+-- one row more has so many open pairs more
+open-more : (n : ℕ) (board : List ℕ) (m k r : ℕ) → k ≡ length (openUpTo n board m) → r ≡ length (keep (isOpen board) (row n (suc m)))
+    → k + r ≡ length (openUpTo n board (suc m))
+open-more n board m k r e f =
+    let d : suc m - 1 ≡ m = omega arith in
+    ap₂ (λ (a b : ℕ). a + b) e f
+    ∙ sym (ap length (openUpTo-more n board (suc m) (omega arith)) ∙ length-append (openUpTo n board (suc m - 1)) (keep (isOpen board) (row n (suc m)))
+    ∙ ap (λ (j : ℕ). length (openUpTo n board j) + length (keep (isOpen board) (row n (suc m)))) d)
+
+pub next-gone : (w old board board′ : List ℕ) (tried live r s p : ℕ) → length old ≡ boardSize → length w ≤ longest → p ≤ length w → Gone w old board tried live p
+    → r ≡ length (rowOpen (length w) board p) → s ≡ length (rowOpen (length w) board′ p) → board′ ≡ rowEnded w p board → Gone w old board′ (tried + r) (live + s) (p + 1)
+unfolding rowEnded allEnded
+next-gone w old board board′ tried live r s zero long u l g e e′ f = absurd (omega (arith, g .from))
+next-gone w old board board′ tried live r s (suc m) long u l g e e′ f =
     let d : suc m - 1 ≡ m = omega arith in
     let d′ : suc m + 1 - 1 ≡ suc m = omega arith in
     let now : board ≡ boardOf (upTo (entryAdded w) m old) = rw d at (g .ended) in
-    let tried : r ≡ length (keep (isOpen old) (row (length w) (suc m))) = e ∙ ap (λ (b : List ℕ). length (rowOpen (length w) b (suc m))) now ∙ ap length (row-untouched (entryAdded w) old long m (length w) u) in
-    let more : length (openUpTo (length w) old (suc m)) ≡ length (openUpTo (length w) old m) + length (keep (isOpen old) (row (length w) (suc m))) =
-    ap length (openUpTo-more (length w) old (suc m) (omega arith)) ∙ length-append (openUpTo (length w) old (suc m - 1)) (keep (isOpen old) (row (length w) (suc m)))
-    ∙ ap (λ (k : ℕ). length (openUpTo (length w) old k) + length (keep (isOpen old) (row (length w) (suc m)))) d in
+    let next : board′ ≡ boardOf (upTo (entryAdded w) (suc m) old) = f ∙ ap (rowEnded w (suc m)) now ∙ next-upTo (entryAdded w) old long m in
+    let opened : r ≡ length (keep (isOpen old) (row (length w) (suc m))) =
+    e ∙ ap (λ (b : List ℕ). length (rowOpen (length w) b (suc m))) now ∙ ap length (row-untouched (entryAdded w) old long m (length w) u) in
+    let left : s ≡ length (keep (isOpen (allEnded w old)) (row (length w) (suc m))) =
+    e′ ∙ ap (λ (b : List ℕ). length (rowOpen (length w) b (suc m))) next ∙ ap length (row-gone (entryAdded w) old long m (length w) u) in
     record {
       from = omega arith;
       to = omega arith;
-      few = few-more trials r m (g .few) (omega (arith, e, few-in-row w board (suc m) l u));
-      counted = rw d′ (omega (arith, tried, more, rw d at (g .counted)));
-      ended = rw d′ (f ∙ ap (rowEnded w (suc m)) now ∙ next-upTo (entryAdded w) old long m);
+      few-tried = few-more tried r m (g .few-tried) (omega (arith, e, few-in-row w board (suc m) l u));
+      few-live = few-more live s m (g .few-live) (omega (arith, e′, few-in-row w board′ (suc m) l u));
+      counted = rw d′ (open-more (length w) old m tried r (rw d at (g .counted)) opened);
+      left-open = rw d′ (open-more (length w) (allEnded w old) m live s (rw d at (g .left-open)) left);
+      ended = rw d′ next;
     }

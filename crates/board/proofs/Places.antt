@@ -1,8 +1,8 @@
 -- Laws of places: the pairs in range for 240, in pair order, stand at the places 0, 1, 2 and so on; so a board is known by its entries
 -- at the pairs.
-use mathlib.Core.Path.{_≡_, refl, sym, ap, _∙_}
+use mathlib.Core.Path.{_≡_, refl, sym, ap, ap₂, _∙_}
 use mathlib.Core.Logic.{⊎-elim}
-use mathlib.Core.Bool.{Bool, true, false, _&&_}
+use mathlib.Core.Bool.{Bool, true, false, not, _&&_}
 use mathlib.Core.List.{List, [], _∷_, _++_, map, map-append, List·Memᴰ, List·Memᴰ·head, List·Memᴰ·tail, List·Memᴰ·cases-cons, List·Memᴰ·not-nil}
 use Prim.Native.Nat.{ℕ, zero, suc, _+_, _≤_, _<_}
 use native.Mathlib.Omega.{arith}
@@ -14,9 +14,9 @@ use Rattle.abelian.specs.Lists.{pick, upFrom, all, each, put, keep}
 use Rattle.abelian.specs.Words.{longest}
 use Rattle.abelian.specs.Periods.{Pair, pair, inRange, heads, row, pairs, Before}
 use Rattle.abelian.specs.EndedLengths.{boardOf}
-use Rattle.abelian.specs.Trackers.{boardSize, entries, pairsWhere}
+use Rattle.abelian.specs.Trackers.{boardSize, entries, pairsWhere, openPairs, endedPairs}
 use Rattle.abelian.proofs.Tests.{is-true, both, left, right, decided}
-use Rattle.abelian.proofs.Lists.{all-mem, upFrom-mem, mem-keep, keep-mem, upFrom-append, ordered-keep}
+use Rattle.abelian.proofs.Lists.{all-mem, upFrom-mem, mem-keep, keep-mem, upFrom-append, ordered-keep, keep-or-not}
 use Rattle.abelian.proofs.Pairs.{InRange, in-range, range-in, in-range-longer, pairs-in-range, in-range-pairs, pairs-rising, rising-equal}
 use Rattle.periods.proofs.PairCount.{length-row, pair-count}
 use Rattle.board.specs.Places.{rowStart, placeOf, entryAt}
@@ -168,6 +168,21 @@ keep-in-range n f l =
     let r : InRange n z = in-range n z i in
     let w : T (inRange longest z) = range-in longest z (in-range-longer r l) in
     keep-mem t (pairs longest) (in-range-pairs longest z w) (both (inRange n z) (f z) i (mem-keep f (pairs n) m .1)))
+
+-- the pairs in range for n whose entry passes a test, on any board
+pub pairsWhere-in-range : (f : ℕ → Bool) (n : ℕ) (board : List ℕ) → n ≤ longest → length board ≡ boardSize
+    → pairsWhere (λ (x : Pair) (e : ℕ). inRange n x && f e) (pairs longest) board ≡ keep (λ (x : Pair). f (entryAt board x)) (pairs n)
+pairsWhere-in-range f n board l long =
+    ap (pairsWhere (λ (x : Pair) (e : ℕ). inRange n x && f e) (pairs longest)) (board-of-entries board long)
+    ∙ pairsWhere-boardOf (λ (x : Pair) (e : ℕ). inRange n x && f e) (entryAt board)
+    ∙ keep-in-range n (λ (x : Pair). f (entryAt board x)) l
+
+-- each pair in range is live or has ended
+pub all-told : (n : ℕ) (board : List ℕ) → n ≤ longest → length board ≡ boardSize → length (openPairs n board) + length (endedPairs n board) ≡ length (pairs n)
+unfolding openPairs endedPairs
+all-told n board l long =
+    ap₂ (λ (live ended : List Pair). length live + length ended) (pairsWhere-in-range (λ (e : ℕ). eqb e 0) n board l long) (pairsWhere-in-range (λ (e : ℕ). not (eqb e 0)) n board l long)
+    ∙ keep-or-not (λ (x : Pair). eqb (entryAt board x) 0) (pairs n)
 
 -- entries made anew, on any board
 pub entries-of : (f : Pair → ℕ → ℕ) (board : List ℕ) → length board ≡ boardSize → entries f (pairs longest) board ≡ boardOf (λ (x : Pair). f x (entryAt board x))

@@ -1,24 +1,27 @@
 -- Laws of rows: the open pairs of a board, row by row, and their output words.
 use mathlib.Core.Path.{_≡_, refl, sym, ap, ap₂, _∙_}
-use mathlib.Core.Bool.{Bool, true, false, _&&_}
+use mathlib.Core.Bool.{Bool, true, false}
 use mathlib.Core.List.{List, [], _∷_, _++_, map, map-append}
-use Prim.Native.Nat.{ℕ, zero, suc, _+_, _-_, _≤_, _<_}
+use Prim.Native.Nat.{ℕ, zero, suc, _+_, _-_, _*_, _≤_, _<_}
+use native.Mathlib.Nat.{mul-le-mul}
 use native.Mathlib.Numerals.{add-one}
 use native.Mathlib.Omega.{arith}
+use mir.Syntax.{w64}
+use mir.Val.{Fits}
 use lib.ListN.{length, take, drop, getD, set, length-append, length-take, length-map}
 use lib.Seq.{sets, drop-cons}
 use lib.Dec.{T, eqb, leb}
 use borrow.Author.Tests.{leb-true}
 use Rattle.abelian.specs.Lists.{one, upFrom, all, each, put, keep}
 use Rattle.abelian.specs.Words.{longest, count, part}
-use Rattle.abelian.specs.Periods.{Pair, pair, inRange, heads, row, pairs}
+use Rattle.abelian.specs.Periods.{Pair, pair, heads, row, pairs}
 use Rattle.abelian.specs.Output.{periodWord}
-use Rattle.abelian.specs.Trackers.{boardSize, openPairs, pairsWhere}
+use Rattle.abelian.specs.Trackers.{boardSize, openPairs}
 use Rattle.abelian.proofs.Tests.{is-true}
 use Rattle.abelian.proofs.Lists.{all-mem, upFrom-mem, upFrom-append, keep-append, each-append, each-last}
 use Rattle.board.specs.Places.{rowStart, placeOf, entryAt, isOpen}
 use Rattle.board.specs.Rows.{rowWords}
-use Rattle.board.proofs.Places.{next-row, board-of-entries, pairsWhere-boardOf, keep-in-range}
+use Rattle.board.proofs.Places.{next-row, pairsWhere-in-range}
 
 -- ---- stores one behind the other
 
@@ -133,12 +136,13 @@ openUpTo-rises n board {m} {k} l =
 -- all rows
 pub openUpTo-all : (n : ℕ) (board : List ℕ) → n ≤ longest → length board ≡ boardSize → openUpTo n board n ≡ openPairs n board
 unfolding openPairs pairs
-openUpTo-all n board l e =
-    sym (ap (pairsWhere (λ (x : Pair) (i : ℕ). inRange n x && eqb i 0) (pairs longest)) (board-of-entries board e)
-    ∙ pairsWhere-boardOf (λ (x : Pair) (i : ℕ). inRange n x && eqb i 0) (entryAt board)
-    ∙ keep-in-range n (isOpen board) l)
+openUpTo-all n board l e = sym (pairsWhere-in-range (λ (i : ℕ). eqb i 0) n board l e)
 
 -- ---- the rows lie on the board
+
+-- half of the rows, and two, times as many
+pub product-fits : (a b : ℕ) → a ≤ 122 → b ≤ 122 → Fits w64 (a * b)
+product-fits a b l m = omega (arith, mul-le-mul l m)
 
 rows-end : T (all (λ (p : ℕ). leb (rowStart p + heads longest p) boardSize) (upFrom 1 longest))
 unfolding rowStart heads longest boardSize

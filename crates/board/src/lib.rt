@@ -1,5 +1,5 @@
-// The board: one entry for each pair in range for 240, in pair order. Where the row of a period begins and how long it is, and the pairs
-// whose entry is 0 counted and written: the tracker's list and both listers end in these two, and their counts in the first. For the crates above.
+// The board: one entry for each pair in range for 240, in pair order. Where the row of a period begins and how long it is, how many pairs are
+// in range, and those whose entry is 0 counted and written: the tracker's list and both listers end in these two, and their counts in the first. For the crates above.
 pub mod ending;
 
 use abelian::BOARD;
@@ -11,7 +11,7 @@ ghost use Prim.Native.Nat.{_+_, _≤_};
 ghost use lib.ListN.{length};
 ghost use lib.Seq.{sets};
 ghost use Rattle.abelian.specs.Words.{longest, count};
-ghost use Rattle.abelian.specs.Periods.{pair, heads};
+ghost use Rattle.abelian.specs.Periods.{pair, heads, pairs};
 ghost use Rattle.abelian.specs.Output.{periodWord, fill};
 ghost use Rattle.abelian.specs.Trackers.{openPairs, openWords};
 ghost use Rattle.board.specs.Places.{rowStart};
@@ -38,6 +38,14 @@ pub fn row_heads(n: usize, period: Period) -> usize
 {
     let p = period.0;
     if p <= n - p { p } else { n + 1 - p }
+}
+
+// How many pairs are in range for n.
+pub fn pairs_in_range(n: usize) -> usize
+    requires { ⌜ n ≤ longest ⌝ }
+    ensures { λ r. ⌜ r ≡ length (pairs n) ⌝ }
+{
+    (n + 1) / 2 * ((n + 2) / 2)
 }
 
 // How many of a row's entries are 0. A byte holds the number, since no row has more entries than the longest word has letters; so the

@@ -29,7 +29,7 @@ use Rattle.history.specs.Machine.{Call, machine, lettersUnless}
 use Rattle.history.specs.Calls.{lettersAfter, machineAnswers, trackerAfter, trackerAnswers, wordOf, trackerFrom}
 use Rattle.history.specs.History.{IsWord, History}
 use Rattle.history.specs.TrackerHolding.{trackerHolding}
-use Rattle.history.proofs.TrackerHolding.{fresh-empty}
+use Rattle.history.proofs.TrackerHolding.{fresh-empty, live-and-ended, live-periods}
 use Rattle.history.proofs.Steps.{empty-word, moved, step-machine, machine-word}
 use Rattle.history.proofs.FullPairs.{full-pairs}
 
@@ -98,6 +98,8 @@ history calls =
       holds = record { len = ap (λ (s : Tracker). s .len) t; bytes = ap (λ (s : Tracker). s .bytes) t };
       ended = ap (λ (s : Tracker). s .board) t;
       unreached = unreached w;
+      liveAndEnded = rw t (live-and-ended w (i .fits));
+      liveListed = rw t (live-periods w (i .letters) (i .fits));
       same = λ others e. tracker-of-word others ∙ ap trackerHolding e ∙ sym t;
       listed = λ out l. rw t (step-machine w (Call.list out) i ∙ listed-machine w out l);
       counted = rw t (step-machine w Call.count i);

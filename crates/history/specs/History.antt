@@ -3,7 +3,7 @@ use mathlib.Core.Path.{_≡_}
 use mathlib.Core.Logic.{_↔_}
 use mathlib.Core.Bool.{Bool, false, _&&_}
 use mathlib.Core.List.{List, [], _++_, map, List·Memᴰ}
-use Prim.Native.Nat.{ℕ, _-_, _≤_}
+use Prim.Native.Nat.{ℕ, _+_, _-_, _*_, _/_, _≤_}
 use lib.ListN.{length, replicate}
 use lib.Dec.{T, eqb}
 use Rattle.abelian.specs.Lists.{keep}
@@ -45,6 +45,10 @@ pub record Claim (calls : List Call) (w : List ℕ) (t : Tracker) : Type 0 where
   pub ended : t .board ≡ boardOf (endedLength w)
   -- which is 0 where a pair of the board is not in range for the word
   pub unreached : (x : Pair) → T (inRange longest x) → inRange (length w) x ≡ false → endedLength w x ≡ 0
+  -- live and ended are together the number of pairs in range for the word, floor((n+1)/2) × floor((n+2)/2)
+  pub liveAndEnded : t .live + t .ended ≡ (length w + 1) / 2 * ((length w + 2) / 2)
+  -- and live is the number of words that a list writes
+  pub liveListed : t .live ≡ length (periodWords w)
   -- any other list of calls that leaves the word leaves the same tracker in every field
   pub same : (others : List Call) → wordOf others ≡ w → trackerFrom others ≡ t
   -- a list call made then, with places enough, writes the word's Abelian periods

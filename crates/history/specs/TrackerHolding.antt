@@ -4,8 +4,9 @@ use mathlib.Core.List.{List, _++_}
 use lib.ListN.{length, replicate}
 use Rattle.abelian.specs.Words.{longest}
 use Rattle.abelian.specs.EndedLengths.{endedLength, boardOf}
+use Rattle.abelian.specs.Trackers.{withTotals}
 use Rattle.abelian.specs.declared.Tracker.{Tracker}
 
--- it holds the word, and each board entry is its pair's ended length
+-- it holds the word, each board entry is its pair's ended length, and the totals are those of this board
 unfoldable pub trackerHolding : List ℕ → Tracker
-trackerHolding w = record { len = length w; bytes = w ++ replicate (longest - length w) 0; board = boardOf (endedLength w) }
+trackerHolding w = withTotals (length w) (w ++ replicate (longest - length w) 0) (boardOf (endedLength w))

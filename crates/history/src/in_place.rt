@@ -28,17 +28,24 @@ pub struct ReplayAnswer {
 }
 
 // Makes the call that the byte stands for: a take-back, a clear, or an add of the byte.
-fn call(byte: u8, len: &mut usize, bytes: &mut [u8; LONGEST], board: &mut [u8; BOARD]) -> Outcome
-    ensures { λ r. ⌜ asStep (ofFields (now (len .exit)) (now (bytes .exit)) (now (board .exit))) (answeredOutcome r)
-        ≡ step (ofFields (now (len .entry)) (now (bytes .entry)) (now (board .entry))) (callOf byte) ⌝ }
+fn call(
+    byte: u8,
+    len: &mut usize,
+    bytes: &mut [u8; LONGEST],
+    board: &mut [u8; BOARD],
+    live: &mut usize,
+    ended: &mut usize,
+) -> Outcome
+    ensures { λ r. ⌜ asStep (ofFields (now (len .exit)) (now (bytes .exit)) (now (board .exit)) (now (live .exit)) (now (ended .exit))) (answeredOutcome r)
+        ≡ step (ofFields (now (len .entry)) (now (bytes .entry)) (now (board .entry)) (now (live .entry)) (now (ended .entry))) (callOf byte) ⌝ }
 {
     if byte == TAKE_BACK {
-        return take_back(len, bytes, board);
+        return take_back(len, bytes, board, live, ended);
     }
     if byte == CLEAR {
-        return clear(len, bytes, board);
+        return clear(len, bytes, board, live, ended);
     }
-    add(len, bytes, board, byte)
+    add(len, bytes, board, live, ended, byte)
 }
 
 // 1 for a refusal, and 0 for acceptance.
@@ -59,15 +66,17 @@ pub fn replay(
     len: &mut usize,
     bytes: &mut [u8; LONGEST],
     board: &mut [u8; BOARD],
+    live: &mut usize,
+    ended: &mut usize,
 ) -> ReplayAnswer
-    ensures { λ r. ⌜ asReplay (ofFields (now (len .exit)) (now (bytes .exit)) (now (board .exit))) (r .refused) (answeredWrote (r .wrote) (now (out .exit)))
+    ensures { λ r. ⌜ asReplay (ofFields (now (len .exit)) (now (bytes .exit)) (now (board .exit)) (now (live .exit)) (now (ended .exit))) (r .refused) (answeredWrote (r .wrote) (now (out .exit)))
         ≡ replaying (now (calls .entry)) (now (out .entry)) ⌝ }
 {
-    clear(len, bytes, board);
+    clear(len, bytes, board, live, ended);
     let mut refused = 0;
     let mut i = 0;
     while i < calls.len() {
-        let outcome = call(calls[i], len, bytes, board);
+        let outcome = call(calls[i], len, bytes, board, live, ended);
         refused += refused_calls(outcome);
         i += 1;
     }

@@ -25,8 +25,24 @@ pub fn replay(calls: &[u8], out: &mut [u32]) -> Replayed
     let mut len = 0;
     let mut bytes = [0; LONGEST];
     let mut board = [0; BOARD];
-    let answer = in_place::replay(calls, out, &mut len, &mut bytes, &mut board);
-    let tracker = Tracker { len, bytes, board };
+    let mut live = 0;
+    let mut ended = 0;
+    let answer = in_place::replay(
+        calls,
+        out,
+        &mut len,
+        &mut bytes,
+        &mut board,
+        &mut live,
+        &mut ended,
+    );
+    let tracker = Tracker {
+        len,
+        bytes,
+        board,
+        live,
+        ended,
+    };
     let wrote = answer.wrote;
     Replayed {
         tracker,

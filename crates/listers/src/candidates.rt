@@ -31,7 +31,8 @@ pub(crate) fn try_candidates(word: &[u8], board: &mut [u8; BOARD]) -> usize
     count_prefixes(word, &mut counts);
     let lowest = lowest_periods(word, &counts);
     pass_over(word.len(), &lowest, board);
-    end_pairs(word, &counts, board)
+    let trials = end_pairs(word, &counts, board);
+    trials.tried
 }
 
 // The number of Abelian periods of a word that may be taken. For the skipping lister's count and the crates above.

@@ -50,8 +50,8 @@ pub fn list_plain(word: &[u8], out: &mut [u32]) -> Listed
     let mut counts = [[0u8; WIDTH]; ROWS];
     count_prefixes(word, &mut counts);
     let mut board = [0u8; BOARD];
-    let tried = end_pairs(word, &counts, &mut board);
-    list_open(&board, word.len(), tried, out)
+    let trials = end_pairs(word, &counts, &mut board);
+    list_open(&board, word.len(), trials.tried, out)
 }
 
 // Lists all Abelian periods of the word, and tries only the pairs that document 004's two bounds leave.

@@ -1,5 +1,5 @@
-// The tracker's calls for C. The caller keeps a tracker as its three fields, the length, the bytes and the board, and lends them to each call,
-// which works on them in place.
+// The tracker's calls for C. The caller keeps a tracker as its five fields, the length, the bytes, the board and the two totals, and lends them to
+// each call that may change the tracker, which works on them in place. A list and a count are lent the first three.
 use crate::numbers::LuffCounted;
 use crate::numbers::LuffOutcome;
 use crate::numbers::LuffReplayed;
@@ -10,6 +10,7 @@ use crate::numbers::of_wrote;
 use abelian::BOARD;
 use abelian::LONGEST;
 ghost use mathlib.Core.Path.{_≡_};
+ghost use Prim.Native.Nat.{ℕ};
 ghost use Rattle.abelian.specs.Trackers.{freshTracker, adding, takingBack, clearing, trackerListing, trackerCount};
 ghost use Rattle.tracker.specs.Fields.{ofFields, asStep};
 ghost use Rattle.history.specs.Replay.{asReplay, replaying};
@@ -21,10 +22,12 @@ pub extern "C" fn luff_tracker_fresh_fields(
     len: &mut usize,
     bytes: &mut [u8; LONGEST],
     board: &mut [u8; BOARD],
+    live: &mut usize,
+    ended: &mut usize,
 )
-    ensures { λ _. ⌜ ofFields (now (len .exit)) (now (bytes .exit)) (now (board .exit)) ≡ freshTracker ⌝ }
+    ensures { λ _. ⌜ ofFields (now (len .exit)) (now (bytes .exit)) (now (board .exit)) (now (live .exit)) (now (ended .exit)) ≡ freshTracker ⌝ }
 {
-    tracker::in_place::clear(len, bytes, board);
+    tracker::in_place::clear(len, bytes, board, live, ended);
 }
 
 // Adds a letter at the end.
@@ -33,12 +36,14 @@ pub extern "C" fn luff_tracker_add_fields(
     len: &mut usize,
     bytes: &mut [u8; LONGEST],
     board: &mut [u8; BOARD],
+    live: &mut usize,
+    ended: &mut usize,
     letter: u8,
 ) -> LuffOutcome
-    ensures { λ r. ⌜ asStep (ofFields (now (len .exit)) (now (bytes .exit)) (now (board .exit))) (outcomeNumbers r)
-        ≡ adding (ofFields (now (len .entry)) (now (bytes .entry)) (now (board .entry))) letter ⌝ }
+    ensures { λ r. ⌜ asStep (ofFields (now (len .exit)) (now (bytes .exit)) (now (board .exit)) (now (live .exit)) (now (ended .exit))) (outcomeNumbers r)
+        ≡ adding (ofFields (now (len .entry)) (now (bytes .entry)) (now (board .entry)) (now (live .entry)) (now (ended .entry))) letter ⌝ }
 {
-    of_outcome(tracker::in_place::add(len, bytes, board, letter))
+    of_outcome(tracker::in_place::add(len, bytes, board, live, ended, letter))
 }
 
 // Takes the last letter back.
@@ -47,11 +52,13 @@ pub extern "C" fn luff_tracker_take_back_fields(
     len: &mut usize,
     bytes: &mut [u8; LONGEST],
     board: &mut [u8; BOARD],
+    live: &mut usize,
+    ended: &mut usize,
 ) -> LuffOutcome
-    ensures { λ r. ⌜ asStep (ofFields (now (len .exit)) (now (bytes .exit)) (now (board .exit))) (outcomeNumbers r)
-        ≡ takingBack (ofFields (now (len .entry)) (now (bytes .entry)) (now (board .entry))) ⌝ }
+    ensures { λ r. ⌜ asStep (ofFields (now (len .exit)) (now (bytes .exit)) (now (board .exit)) (now (live .exit)) (now (ended .exit))) (outcomeNumbers r)
+        ≡ takingBack (ofFields (now (len .entry)) (now (bytes .entry)) (now (board .entry)) (now (live .entry)) (now (ended .entry))) ⌝ }
 {
-    of_outcome(tracker::in_place::take_back(len, bytes, board))
+    of_outcome(tracker::in_place::take_back(len, bytes, board, live, ended))
 }
 
 // Leaves a fresh tracker. Every tracker is accepted.
@@ -60,11 +67,13 @@ pub extern "C" fn luff_tracker_clear_fields(
     len: &mut usize,
     bytes: &mut [u8; LONGEST],
     board: &mut [u8; BOARD],
+    live: &mut usize,
+    ended: &mut usize,
 ) -> LuffOutcome
-    ensures { λ r. ⌜ asStep (ofFields (now (len .exit)) (now (bytes .exit)) (now (board .exit))) (outcomeNumbers r)
-        ≡ clearing (ofFields (now (len .entry)) (now (bytes .entry)) (now (board .entry))) ⌝ }
+    ensures { λ r. ⌜ asStep (ofFields (now (len .exit)) (now (bytes .exit)) (now (board .exit)) (now (live .exit)) (now (ended .exit))) (outcomeNumbers r)
+        ≡ clearing (ofFields (now (len .entry)) (now (bytes .entry)) (now (board .entry)) (now (live .entry)) (now (ended .entry))) ⌝ }
 {
-    of_outcome(tracker::in_place::clear(len, bytes, board))
+    of_outcome(tracker::in_place::clear(len, bytes, board, live, ended))
 }
 
 // Lists the open pairs in range for the letters held. The fields are lent for reading alone.
@@ -75,8 +84,8 @@ pub extern "C" fn luff_tracker_list_fields<'a>(
     board: &'a [u8; BOARD],
     out: &mut [u32],
 ) -> LuffWrote
-    ensures { λ r. ⌜ asStep (ofFields len (now (bytes .entry)) (now (board .entry))) (wroteNumbers r (now (out .exit)))
-        ≡ trackerListing (ofFields len (now (bytes .entry)) (now (board .entry))) (now (out .entry)) ⌝ }
+    ensures { λ r. ⌜ ((live ended : ℕ) → asStep (ofFields len (now (bytes .entry)) (now (board .entry)) live ended) (wroteNumbers r (now (out .exit)))
+        ≡ trackerListing (ofFields len (now (bytes .entry)) (now (board .entry)) live ended) (now (out .entry))) ⌝ }
 {
     of_wrote(tracker::in_place::list(len, bytes, board, out))
 }
@@ -88,8 +97,8 @@ pub extern "C" fn luff_tracker_count_fields<'a>(
     bytes: &'a [u8; LONGEST],
     board: &'a [u8; BOARD],
 ) -> LuffCounted
-    ensures { λ r. ⌜ asStep (ofFields len (now (bytes .entry)) (now (board .entry))) (countedNumbers r)
-        ≡ trackerCount (ofFields len (now (bytes .entry)) (now (board .entry))) ⌝ }
+    ensures { λ r. ⌜ ((live ended : ℕ) → asStep (ofFields len (now (bytes .entry)) (now (board .entry)) live ended) (countedNumbers r)
+        ≡ trackerCount (ofFields len (now (bytes .entry)) (now (board .entry)) live ended)) ⌝ }
 {
     of_needed(tracker::in_place::count(len, bytes, board))
 }
@@ -102,11 +111,13 @@ pub extern "C" fn luff_tracker_replay_fields(
     len: &mut usize,
     bytes: &mut [u8; LONGEST],
     board: &mut [u8; BOARD],
+    live: &mut usize,
+    ended: &mut usize,
 ) -> LuffReplayed
-    ensures { λ r. ⌜ asReplay (ofFields (now (len .exit)) (now (bytes .exit)) (now (board .exit))) (r .refused) (replayedNumbers r (now (out .exit)))
+    ensures { λ r. ⌜ asReplay (ofFields (now (len .exit)) (now (bytes .exit)) (now (board .exit)) (now (live .exit)) (now (ended .exit))) (r .refused) (replayedNumbers r (now (out .exit)))
         ≡ replaying (now (calls .entry)) (now (out .entry)) ⌝ }
 {
-    let answer = history::in_place::replay(calls, out, len, bytes, board);
+    let answer = history::in_place::replay(calls, out, len, bytes, board, live, ended);
     let wrote = answer.wrote;
     let listed = of_wrote(wrote);
     LuffReplayed {

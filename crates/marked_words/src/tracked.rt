@@ -62,12 +62,14 @@ fn say_entries(tracker: Tracker) {
     }
 }
 
-// Prints a tracker: its length, its bytes and its entries.
+// Prints a tracker: its length, its bytes, its entries, and its totals with a plus between them.
 fn say_tracker(tracker: Tracker) {
     say_number(b' ', tracker.len);
     say(b":");
     say_bytes(tracker);
     say_entries(tracker);
+    say_number(b' ', tracker.live);
+    say_number(b'+', tracker.ended);
 }
 
 // Makes the call that a byte stands for, as in a log: a take-back, a clear, or an add of the byte.
@@ -100,12 +102,14 @@ fn say_counted(tracker: Tracker) -> Tracker {
     after
 }
 
-// A tracker that holds 240 times a.
+// A tracker that holds 240 times a, with totals that are not those of its board.
 fn full() -> Tracker {
     Tracker {
         len: LONGEST,
         bytes: [b'a'; LONGEST],
         board: [0; BOARD],
+        live: 5,
+        ended: 6,
     }
 }
 

@@ -1,5 +1,5 @@
 -- Laws of the steps: what each call leaves, for each of its refusals and where it is accepted.
-use mathlib.Core.Path.{_≡_}
+use mathlib.Core.Path.{_≡_, refl}
 use mathlib.Core.Bool.{true, false}
 use mathlib.Core.List.{List, [], map}
 use Prim.Native.Nat.{ℕ, _+_, _-_, _≤_, _<_}
@@ -8,14 +8,17 @@ use native.Mathlib.Omega.{arith}
 use lib.ListN.{length, take, set, length-map}
 use borrow.Author.Tests.{lt-ltb, le-ltb, eq-eqb, ne-eqb}
 use Rattle.abelian.specs.Words.{alphabetSize, longest, isLetter}
+use Rattle.abelian.specs.Periods.{pairs}
 use Rattle.abelian.specs.Output.{periodWord, fill}
 use Rattle.abelian.specs.Refusals.{firstHolding, trackerRefusal}
 use Rattle.abelian.specs.Answers.{refusing, accepting, writing, counting}
-use Rattle.abelian.specs.Trackers.{Step, stepUnless, damaged, added, adding, shortened, takingBack, openPairs, trackerListing, trackerCount}
+use Rattle.abelian.specs.Trackers.{Step, boardSize, stepUnless, damaged, totals, withTotals, added, adding, shortened, takingBack, openPairs, endedPairs, trackerListing, trackerCount}
 use Rattle.abelian.specs.declared.Refusal.{Refusal}
 use Rattle.abelian.specs.declared.Refusal.the-variants.{NotALetter, SliceTooShort, TrackerFull, TrackerEmpty, TrackerDamaged}
 use Rattle.abelian.specs.declared.Tracker.{Tracker}
 use Rattle.board.specs.Ending.{allEnded}
+use Rattle.board.proofs.Places.{all-told}
+use Rattle.tracker.specs.Fields.{ofFields}
 use Rattle.tracker.specs.Steps.{entryReopened}
 
 -- a refused call leaves the tracker and the slice as they came
@@ -29,6 +32,19 @@ accepted t = record { tracker = t; answer = accepting }
 -- an accepted list, that wrote so many words and left the slice so
 abbrev pub listed : Tracker → ℕ → List ℕ → Step
 listed t words out = record { tracker = t; answer = writing words 0 0 0 out }
+
+-- ---- totals
+
+-- the live pairs of a board are counted, and the others in range have ended
+pub live-within : (n : ℕ) (board : List ℕ) {live all : ℕ} → n ≤ longest → length board ≡ boardSize → live ≡ length (openPairs n board) → all ≡ length (pairs n) → live ≤ all
+live-within n board short long e f = omega (arith, all-told n board short long)
+
+pub totalled : (n : ℕ) (bytes board : List ℕ) {live all : ℕ} → n ≤ longest → length board ≡ boardSize → live ≡ length (openPairs n board) → all ≡ length (pairs n)
+    → ofFields n bytes board live (all - live) ≡ withTotals n bytes board
+unfolding totals
+totalled n bytes board {live} {all} short long e f =
+    let g : all - live ≡ length (endedPairs n board) = omega (arith, all-told n board short long) in
+    rw (g, e)
 
 -- ---- add
 
@@ -52,10 +68,9 @@ module _ (t : Tracker) (b : ℕ) where
       adding-accepted n = rw (d, l, ne-eqb (t .len) longest n)
 
   -- the tracker with one letter more, from its parts
-  pub letter-added : {board : List ℕ} → board ≡ allEnded (take (t .len + 1) (set (t .bytes) (t .len) b)) (t .board)
-      → _≡_ {A = Tracker} (record { len = t .len + 1; bytes = set (t .bytes) (t .len) b; board = board }) (added t b)
+  pub letter-added : withTotals (t .len + 1) (set (t .bytes) (t .len) b) (allEnded (take (t .len + 1) (set (t .bytes) (t .len) b)) (t .board)) ≡ added t b
   unfolding added allEnded
-  letter-added e = rw (e, add-one)
+  letter-added = rw add-one
 
 -- ---- take-back
 
@@ -74,10 +89,9 @@ module _ (t : Tracker) where
     takingBack-accepted n = rw (d, ne-eqb (t .len) 0 n)
 
   -- the tracker with its last letter gone, from its parts
-  pub letter-gone : {board : List ℕ} → board ≡ map (entryReopened (t .len)) (t .board)
-      → _≡_ {A = Tracker} (record { len = t .len - 1; bytes = set (t .bytes) (t .len - 1) 0; board = board }) (shortened t)
+  pub letter-gone : withTotals (t .len - 1) (set (t .bytes) (t .len - 1) 0) (map (entryReopened (t .len)) (t .board)) ≡ shortened t
   unfolding shortened
-  letter-gone e = rw e
+  letter-gone = refl
 
 -- ---- list
 

@@ -3,7 +3,9 @@
 use abelian::BOARD;
 use abelian::LONGEST;
 use abelian::Outcome;
+use board::count_open;
 use board::ending::end_pairs;
+use board::pairs_in_range;
 use words::ROWS;
 use words::WIDTH;
 use words::check_word;
@@ -40,18 +42,21 @@ fn whole(bytes: [u8; LONGEST], board: [u8; BOARD])
     ensures { λ _. ⌜ (length bytes ≡ longest) × (length board ≡ boardSize) ⌝ }
 {}
 
-// Stores the letter behind those that the tracker holds, and ends the pairs that are then in range and no Abelian period.
+// Stores the letter behind those that the tracker holds, and ends the pairs that are then in range and no Abelian period. The live ones are counted
+// in the same loop, and the others in range have ended.
 pub(crate) fn store_letter(
     len: &mut usize,
     bytes: &mut [u8; LONGEST],
     board: &mut [u8; BOARD],
+    live: &mut usize,
+    ended: &mut usize,
     letter: u8,
 )
-    requires { ⌜ damaged (ofFields (now len) (now bytes) (now board)) ≡ false ⌝ }
+    requires { ⌜ damaged (ofFields (now len) (now bytes) (now board) (now live) (now ended)) ≡ false ⌝ }
     requires { ⌜ now len < longest ⌝ }
     requires { ⌜ T (isLetter alphabetSize letter) ⌝ }
-    ensures { λ _. ⌜ ofFields (now (len .exit)) (now (bytes .exit)) (now (board .exit))
-        ≡ added (ofFields (now (len .entry)) (now (bytes .entry)) (now (board .entry))) letter ⌝ }
+    ensures { λ _. ⌜ ofFields (now (len .exit)) (now (bytes .exit)) (now (board .exit)) (now (live .exit)) (now (ended .exit))
+        ≡ added (ofFields (now (len .entry)) (now (bytes .entry)) (now (board .entry)) (now (live .entry)) (now (ended .entry))) letter ⌝ }
 {
     whole(*bytes, *board);
     let at = *len;
@@ -61,8 +66,10 @@ pub(crate) fn store_letter(
     let word = &all[..longer];
     let mut counts = [[0u8; WIDTH]; ROWS];
     count_prefixes(word, &mut counts);
-    end_pairs(word, &counts, board);
+    let trials = end_pairs(word, &counts, board);
     *len = longer;
+    *live = trials.live;
+    *ended = pairs_in_range(longer) - trials.live;
 }
 
 // A pair's entry after the letter that made the length has gone: 0 where the pair ended at that length, and else as it was.
@@ -84,17 +91,26 @@ fn reopen(board: &mut [u8; BOARD], len: u8)
     }
 }
 
-// Takes the last letter off, and opens the pairs again that ended with it.
-pub(crate) fn remove_last(len: &mut usize, bytes: &mut [u8; LONGEST], board: &mut [u8; BOARD])
+// Takes the last letter off, opens the pairs again that ended with it, and counts those that are open then.
+pub(crate) fn remove_last(
+    len: &mut usize,
+    bytes: &mut [u8; LONGEST],
+    board: &mut [u8; BOARD],
+    live: &mut usize,
+    ended: &mut usize,
+)
     requires { ⌜ now len ≤ longest ⌝ }
     requires { ⌜ 1 ≤ now len ⌝ }
-    ensures { λ _. ⌜ ofFields (now (len .exit)) (now (bytes .exit)) (now (board .exit))
-        ≡ shortened (ofFields (now (len .entry)) (now (bytes .entry)) (now (board .entry))) ⌝ }
+    ensures { λ _. ⌜ ofFields (now (len .exit)) (now (bytes .exit)) (now (board .exit)) (now (live .exit)) (now (ended .exit))
+        ≡ shortened (ofFields (now (len .entry)) (now (bytes .entry)) (now (board .entry)) (now (live .entry)) (now (ended .entry))) ⌝ }
 {
     whole(*bytes, *board);
-    let ended = *len;
-    let last = ended - 1;
+    let held = *len;
+    let last = held - 1;
     bytes[last] = 0;
-    reopen(board, ended as u8);
+    reopen(board, held as u8);
+    let open = count_open(board, last);
     *len = last;
+    *live = open;
+    *ended = pairs_in_range(last) - open;
 }

@@ -40,6 +40,8 @@ pub fn fresh() -> Tracker
         len: 0,
         bytes: [0; LONGEST],
         board: [0; BOARD],
+        live: 0,
+        ended: 0,
     }
 }
 
@@ -50,8 +52,23 @@ pub fn add(tracker: Tracker, letter: u8) -> Stepped
     let mut len = tracker.len;
     let mut bytes = tracker.bytes;
     let mut board = tracker.board;
-    let outcome = in_place::add(&mut len, &mut bytes, &mut board, letter);
-    let longer = Tracker { len, bytes, board };
+    let mut live = tracker.live;
+    let mut ended = tracker.ended;
+    let outcome = in_place::add(
+        &mut len,
+        &mut bytes,
+        &mut board,
+        &mut live,
+        &mut ended,
+        letter,
+    );
+    let longer = Tracker {
+        len,
+        bytes,
+        board,
+        live,
+        ended,
+    };
     Stepped {
         tracker: longer,
         outcome,
@@ -65,8 +82,16 @@ pub fn take_back(tracker: Tracker) -> Stepped
     let mut len = tracker.len;
     let mut bytes = tracker.bytes;
     let mut board = tracker.board;
-    let outcome = in_place::take_back(&mut len, &mut bytes, &mut board);
-    let shorter = Tracker { len, bytes, board };
+    let mut live = tracker.live;
+    let mut ended = tracker.ended;
+    let outcome = in_place::take_back(&mut len, &mut bytes, &mut board, &mut live, &mut ended);
+    let shorter = Tracker {
+        len,
+        bytes,
+        board,
+        live,
+        ended,
+    };
     Stepped {
         tracker: shorter,
         outcome,
@@ -80,8 +105,16 @@ pub fn clear(tracker: Tracker) -> Stepped
     let mut len = tracker.len;
     let mut bytes = tracker.bytes;
     let mut board = tracker.board;
-    let outcome = in_place::clear(&mut len, &mut bytes, &mut board);
-    let cleared = Tracker { len, bytes, board };
+    let mut live = tracker.live;
+    let mut ended = tracker.ended;
+    let outcome = in_place::clear(&mut len, &mut bytes, &mut board, &mut live, &mut ended);
+    let cleared = Tracker {
+        len,
+        bytes,
+        board,
+        live,
+        ended,
+    };
     Stepped {
         tracker: cleared,
         outcome,

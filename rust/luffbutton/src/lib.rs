@@ -8,7 +8,7 @@
 //! ([`Refusal`]). A refused call changes nothing; only a [`Tracker::replay`] whose list is refused has still made its calls. Heads and
 //! periods are types of their own, answers are enums and structs, and a tracker is made and changed by its calls alone. Nothing is
 //! allocated. A call takes up to 40 KB of stack, one on a tracker up to 12 KB (the header's `LUFF_STACK_..`, measured), and a [`Tracker`]
-//! has 14,768 bytes.
+//! has 14,784 bytes.
 //!
 //! A list is written to the first places of a lent slice of 32-bit words, and [`findings`] reads it ([`runs`] a list of runs):
 //!
@@ -24,6 +24,8 @@
 //! let written = tracker.list(&mut out).unwrap();
 //! let (head, period) = (Head(0), Period(2));
 //! assert!(findings(&out[..written]).eq([Finding::Period { head, period }]));
+//! // Of the two pairs in range for ab, one is live and one has ended.
+//! assert_eq!((tracker.live(), tracker.ended()), (1, 1));
 //! ```
 //!
 //! Each list call has a count beside it, such as [`count_report`] for [`report`] and [`Tracker::count`] for [`Tracker::list`]. It says

@@ -151,22 +151,30 @@ extern "C" {
         length: *mut usize,
         bytes: *mut [u8; LONGEST],
         board: *mut [u8; BOARD],
+        live: *mut usize,
+        ended: *mut usize,
     );
     fn luff_tracker_add_fields(
         length: *mut usize,
         bytes: *mut [u8; LONGEST],
         board: *mut [u8; BOARD],
+        live: *mut usize,
+        ended: *mut usize,
         letter: u8,
     ) -> Outcome;
     fn luff_tracker_take_back_fields(
         length: *mut usize,
         bytes: *mut [u8; LONGEST],
         board: *mut [u8; BOARD],
+        live: *mut usize,
+        ended: *mut usize,
     ) -> Outcome;
     fn luff_tracker_clear_fields(
         length: *mut usize,
         bytes: *mut [u8; LONGEST],
         board: *mut [u8; BOARD],
+        live: *mut usize,
+        ended: *mut usize,
     ) -> Outcome;
     fn luff_tracker_list_fields(
         length: usize,
@@ -188,6 +196,8 @@ extern "C" {
         length: *mut usize,
         bytes: *mut [u8; LONGEST],
         board: *mut [u8; BOARD],
+        live: *mut usize,
+        ended: *mut usize,
     ) -> Replayed;
 }
 
@@ -311,31 +321,34 @@ pub fn count_windows(pattern: &[u8], record: &[u8]) -> Counted {
 
 /// Makes the fields those of a fresh tracker, whatever stood there.
 pub fn fresh(tracker: &mut Fields) {
-    // SAFETY: the fields are three places of one struct.
-    unsafe {
-        luff_tracker_fresh_fields(&mut tracker.length, &mut tracker.bytes, &mut tracker.board)
-    }
+    let (length, bytes, board) = (&mut tracker.length, &mut tracker.bytes, &mut tracker.board);
+    let (live, ended) = (&mut tracker.live, &mut tracker.ended);
+    // SAFETY: the fields are five places of one struct.
+    unsafe { luff_tracker_fresh_fields(length, bytes, board, live, ended) }
 }
 
 /// The letter joins the end.
 pub fn add(tracker: &mut Fields, letter: u8) -> Outcome {
-    let (length, bytes) = (&mut tracker.length, &mut tracker.bytes);
-    // SAFETY: the fields are three places of one struct.
-    unsafe { luff_tracker_add_fields(length, bytes, &mut tracker.board, letter) }
+    let (length, bytes, board) = (&mut tracker.length, &mut tracker.bytes, &mut tracker.board);
+    let (live, ended) = (&mut tracker.live, &mut tracker.ended);
+    // SAFETY: the fields are five places of one struct.
+    unsafe { luff_tracker_add_fields(length, bytes, board, live, ended, letter) }
 }
 
 /// The last letter goes.
 pub fn take_back(tracker: &mut Fields) -> Outcome {
-    let (length, bytes) = (&mut tracker.length, &mut tracker.bytes);
-    // SAFETY: the fields are three places of one struct.
-    unsafe { luff_tracker_take_back_fields(length, bytes, &mut tracker.board) }
+    let (length, bytes, board) = (&mut tracker.length, &mut tracker.bytes, &mut tracker.board);
+    let (live, ended) = (&mut tracker.live, &mut tracker.ended);
+    // SAFETY: the fields are five places of one struct.
+    unsafe { luff_tracker_take_back_fields(length, bytes, board, live, ended) }
 }
 
 /// Makes any tracker fresh. It is always accepted.
 pub fn clear(tracker: &mut Fields) -> Outcome {
-    let (length, bytes) = (&mut tracker.length, &mut tracker.bytes);
-    // SAFETY: the fields are three places of one struct.
-    unsafe { luff_tracker_clear_fields(length, bytes, &mut tracker.board) }
+    let (length, bytes, board) = (&mut tracker.length, &mut tracker.bytes, &mut tracker.board);
+    let (live, ended) = (&mut tracker.live, &mut tracker.ended);
+    // SAFETY: the fields are five places of one struct.
+    unsafe { luff_tracker_clear_fields(length, bytes, board, live, ended) }
 }
 
 /// Lists the pairs in range whose entry is 0: of a tracker made by its calls, the Abelian periods of the letters held.
@@ -353,7 +366,7 @@ pub fn count(tracker: &Fields) -> Counted {
 
 /// Makes the tracker fresh, makes a call on it for each byte, and lists once.
 pub fn replay(tracker: &mut Fields, calls: &[u8], out: &mut [u32]) -> Replayed {
-    // SAFETY: both slices are valid for their lengths, and the fields are three places of one struct.
+    // SAFETY: both slices are valid for their lengths, and the fields are five places of one struct.
     unsafe {
         luff_tracker_replay_fields(
             calls.as_ptr(),
@@ -363,6 +376,8 @@ pub fn replay(tracker: &mut Fields, calls: &[u8], out: &mut [u32]) -> Replayed {
             &mut tracker.length,
             &mut tracker.bytes,
             &mut tracker.board,
+            &mut tracker.live,
+            &mut tracker.ended,
         )
     }
 }

@@ -5,7 +5,7 @@ use crate::vocabulary::Fields;
 use crate::words::{counted, written};
 use core::fmt;
 
-/// A word that grows and shrinks by letters, with its Abelian periods known after every call. It takes 14,768 bytes:
+/// A word that grows and shrinks by letters, with its Abelian periods known after every call. It takes 14,784 bytes:
 /// [`Tracker::fresh`] and [`Tracker::replay`] return it by value; the other calls work on it in place.
 #[derive(Clone, PartialEq, Eq)]
 pub struct Tracker {
@@ -18,7 +18,7 @@ impl Default for Tracker {
     }
 }
 
-/// The letters held; the board follows from them.
+/// The letters held; the board and the totals follow from them.
 impl fmt::Debug for Tracker {
     fn fmt(&self, f: &mut fmt::Formatter<'_>) -> fmt::Result {
         write!(f, "Tracker(\"{}\")", self.letters().escape_ascii())
@@ -70,6 +70,17 @@ impl Tracker {
     /// held. It is never refused: the one reason would be 6, a damaged tracker, and none made by its calls is.
     pub fn count(&self) -> Result<usize, Refusal> {
         counted(numbers::count(&self.fields))
+    }
+
+    /// How many pairs in range for the letters held are live: they are the Abelian periods, as many as [`count`](Tracker::count) says. It
+    /// is kept by every call that changes the letters, so that it is there at once.
+    pub fn live(&self) -> usize {
+        self.fields.live
+    }
+
+    /// How many pairs in range for the letters held have ended. With the live ones they are all pairs in range.
+    pub fn ended(&self) -> usize {
+        self.fields.ended
     }
 
     /// The letters held.

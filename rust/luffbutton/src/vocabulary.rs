@@ -63,6 +63,10 @@ pub struct Fields {
     /// The ended length of each pair in range for the longest word, by p and then h: the smallest m from h + p to the length at which
     /// the pair is no Abelian period of the first m letters, or 0.
     pub board: [u8; BOARD],
+    /// How many pairs in range for the length have the entry 0. Each add, take-back and clear that is accepted sets it, and no call reads it.
+    pub live: usize,
+    /// How many of them have another entry. It is set with `live`, and not read either.
+    pub ended: usize,
 }
 
 impl Fields {
@@ -72,6 +76,8 @@ impl Fields {
             length: 0,
             bytes: [0; LONGEST],
             board: [0; BOARD],
+            live: 0,
+            ended: 0,
         }
     }
 }

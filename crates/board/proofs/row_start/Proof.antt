@@ -3,11 +3,10 @@ use mathlib.Core.Path.{_≡_}
 use Prim.Native.Nat.{ℕ, zero, suc, _-_, _*_, _/_, _≤_, _<_}
 use native.Mathlib.Nat.{suc-mul, mul-one, mul-sub, mul-le-mul}
 use native.Mathlib.Omega.{arith}
-use mir.Syntax.{w64}
-use mir.Val.{Fits}
 use borrow.Author.Tests.{le-leb, lt-leb}
 use Rattle.abelian.specs.Words.{longest}
 use Rattle.board.specs.Places.{rowStart}
+use Rattle.board.proofs.Rows.{product-fits}
 use Rattle.board.proofs.row_start.Statement.{statement}
 use Rattle.board.proofs.row_start.Tie as tie
 
@@ -15,13 +14,8 @@ le-product : (a b : ℕ) → a ≤ b → a ≤ a * b
 le-product zero b l = omega arith
 le-product (suc a) b l = omega (arith, suc-mul a b)
 
--- both factors are at most 122: half of the rows, and two
-module _ (a b : ℕ) (l : a ≤ 122) (m : b ≤ 122) where
-  product-fits : Fits w64 (a * b)
-  product-fits = omega (arith, mul-le-mul l m)
-
-  half-product : a * b / 2 ≤ 14520
-  half-product = omega (arith, mul-le-mul l m)
+half-product : (a b : ℕ) → a ≤ 122 → b ≤ 122 → a * b / 2 ≤ 14520
+half-product a b l m = omega (arith, mul-le-mul l m)
 
 -- the two sides of the rule
 rising : (p : ℕ) → p ≤ 121 → (p * p - p) / 2 ≡ rowStart p

@@ -54,7 +54,7 @@ returns-2 c =
     let ended = c .before .before in
     let told = ended .before .before .before .before .before in
     accepted-count (word told) (told .before .before .check-word .ensures) (told .enum-told .given .1) _
-    (c .count-open .ensures ∙ open-count (word told) _ (ap (openPairs (length (word told))) (ended .end-pairs .ensures .1) ∙ ended-periods (word told) (may told .1)))
+    (c .count-open .ensures ∙ open-count (word told) _ (ap (openPairs (length (word told))) (ended .end-pairs .ensures .1 .1) ∙ ended-periods (word told) (may told .1)))
 
 pub count-plain-spec : {M : Type 1} → statement M
 count-plain-spec =

@@ -68,7 +68,7 @@ returns-2 c =
     let e = l .before .before .before in
     let a = e .before .before .before .before .before in
     l .list-open .ensures
-    ∙ plain-listed (word a) (start a .args .out .now) _ _ (accepted a) (e .end-pairs .ensures .1) (e .end-pairs .ensures .0)
+    ∙ plain-listed (word a) (start a .args .out .now) _ _ (accepted a) (e .end-pairs .ensures .1 .1) (e .end-pairs .ensures .0)
 
 pub list-plain-spec : {M : Type 1} → statement M
 list-plain-spec =

@@ -5,7 +5,7 @@ use super::{Counts, Row, NONE};
 use crate::calls::Answer;
 use luffbutton::{Fields, BOARD, LONGEST};
 
-/// Add by fields, as document 01 has it for every tracker: each entry 0 in range is tested anew.
+/// Add by fields, as document 01 has it for every tracker: each entry 0 in range is tested anew, and the live ones are counted (C-19).
 pub fn add_in_place(tracker: &mut Fields, letter: u8) -> Answer {
     let old = tracker.length;
     if old > LONGEST || tracker.bytes[..old].iter().any(|&byte| !is_letter(byte)) {
@@ -22,19 +22,27 @@ pub fn add_in_place(tracker: &mut Fields, letter: u8) -> Answer {
     let n = tracker.length;
     let counts = prefix_counts(&tracker.bytes[..n]);
     let mut start = 0;
+    let mut live = 0;
     for p in 1..=n {
         let row = &mut tracker.board[start..start + heads(n, p)];
         for (h, entry) in row.iter_mut().enumerate() {
-            if *entry == 0 && !holds(&counts, n, h, p) {
-                *entry = n as u8;
+            if *entry == 0 {
+                if holds(&counts, n, h, p) {
+                    live += 1;
+                } else {
+                    *entry = n as u8;
+                }
             }
         }
         start += heads(LONGEST, p);
     }
+    tracker.live = live;
+    tracker.ended = (n + 1) / 2 * ((n + 2) / 2) - live;
     Answer::default()
 }
 
-/// A tracker that keeps its prefix counts and tests of each live pair only what the new letter can change.
+/// A tracker that keeps its prefix counts and tests of each live pair only what the new letter can change. It has no totals, as document
+/// 004's algorithm has none.
 #[derive(Clone)]
 pub struct OnLine {
     pub length: usize,

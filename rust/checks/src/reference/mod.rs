@@ -1,5 +1,5 @@
 //! A second implementation, written from document 01 and, for runs, counts, windows, the cover length, the letters, the report of equal
-//! letters and full periods, from the requests C-11, C-12, C-13, C-14, C-16, C-17 and C-18 alone, in the plainest way: every block and every
+//! letters, full periods and a tracker's totals, from the requests C-11, C-12, C-13, C-14, C-16, C-17, C-18 and C-19 alone, in the plainest way: every block and every
 //! window is counted anew, every definition is tried word by word, and the tracker's machine is a list of letters. It shares no route with
 //! the library, which goes by prefix counts, boards and counts that slide.
 mod covers;

@@ -51,6 +51,19 @@ impl Machine {
     pub fn count(&self) -> Answer {
         Answer::of_words(periods(&self.letters).len())
     }
+
+    /// The one tracker that holds its letters: with their ended lengths, their periods live, and all other pairs in range ended.
+    pub fn tracker(&self, prefixes: &mut Prefixes) -> Fields {
+        let n = self.letters.len();
+        let mut tracker = Fields::zero();
+        tracker.length = n;
+        tracker.bytes[..n].copy_from_slice(&self.letters);
+        prefixes.follow(&self.letters);
+        tracker.board = prefixes.board();
+        tracker.live = periods(&self.letters).len();
+        tracker.ended = (n + 1) / 2 * ((n + 2) / 2) - tracker.live;
+        tracker
+    }
 }
 
 /// A word that changes at its end, with every pair judged once on each of its prefixes, so that the ended lengths of a long word can
@@ -104,6 +117,15 @@ fn damaged(tracker: &Fields) -> bool {
     tracker.length > LONGEST || held.into_iter().any(|&byte| !is_letter(byte))
 }
 
+/// The totals of request C-19, each by a count of its own: of the pairs in range for the length, those whose entry is 0 and those whose entry
+/// isn't.
+fn set_totals(tracker: &mut Fields) {
+    let (n, entries) = (tracker.length, tracker.board.iter().zip(board_pairs()));
+    let in_range = entries.filter(|(_, &pair)| in_range(n, pair));
+    tracker.live = in_range.clone().filter(|(&entry, _)| entry == 0).count();
+    tracker.ended = in_range.filter(|(&entry, _)| entry != 0).count();
+}
+
 /// Add by fields: refusals 6, 2, 4, else the letter is stored, and each entry 0 whose pair is then in range and no Abelian period
 /// of the letters held is set to the new length.
 pub fn add(tracker: &mut Fields, letter: u8) -> Answer {
@@ -124,6 +146,7 @@ pub fn add(tracker: &mut Fields, letter: u8) -> Answer {
             *entry = held.len() as u8;
         }
     }
+    set_totals(tracker);
     Answer::default()
 }
 
@@ -142,6 +165,7 @@ pub fn take_back(tracker: &mut Fields) -> Answer {
     }
     tracker.length -= 1;
     tracker.bytes[tracker.length] = 0;
+    set_totals(tracker);
     Answer::default()
 }
 
@@ -185,12 +209,7 @@ pub fn replay(tracker: &mut Fields, calls: &[u8], out: &mut [u32]) -> Answer {
         };
         refusals += usize::from(answer.number != 0);
     }
-    let mut prefixes = Prefixes::default();
-    prefixes.follow(&machine.letters);
-    *tracker = Fields::zero();
-    tracker.length = machine.letters.len();
-    tracker.bytes[..machine.letters.len()].copy_from_slice(&machine.letters);
-    tracker.board = prefixes.board();
+    *tracker = machine.tracker(&mut Prefixes::default());
     Answer {
         refused: refusals,
         ..machine.list(out)

@@ -218,15 +218,20 @@ fn trackers() {
         "size_t length",
         "uint8_t bytes[LUFF_LONGEST]",
         "uint8_t board[LUFF_BOARD]",
+        "size_t live",
+        "size_t ended",
     ];
     assert_eq!(members("luff_tracker"), due);
     let bytes = size_of::<usize>();
     assert_eq!(offset_of!(Fields, length), 0);
     assert_eq!(offset_of!(Fields, bytes), bytes);
     assert_eq!(offset_of!(Fields, board), bytes + LONGEST);
-    assert_eq!(size_of::<Fields>(), bytes + LONGEST + BOARD);
-    assert!(HEADER.contains(" It takes 14,768 bytes."));
-    assert_eq!(size_of::<Fields>(), 14768);
+    let totals = bytes + LONGEST + BOARD;
+    assert_eq!(offset_of!(Fields, live), totals);
+    assert_eq!(offset_of!(Fields, ended), totals + bytes);
+    assert_eq!(size_of::<Fields>(), totals + 2 * bytes);
+    assert!(HEADER.contains(" It takes 14,784 bytes."));
+    assert_eq!(size_of::<Fields>(), 14784);
 }
 
 #[test]

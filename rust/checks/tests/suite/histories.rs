@@ -1,7 +1,7 @@
 //! Random lists of tracker calls: after every call the library's answer is the machine's, and its tracker holds the machine's word with
-//! the ended lengths of every pair.
+//! the ended lengths of every pair and the number of its periods for live.
 use crate::records::Call;
-use crate::support::{assert_same_fields, lent, not_a_letter, seeded, step, Shown};
+use crate::support::{any_totals, assert_same_fields, lent, not_a_letter, seeded, step, Shown};
 use checks::calls::{Answer, Calls};
 use checks::generator::Generator;
 use checks::library::Library;
@@ -83,12 +83,7 @@ impl Compared {
     }
 
     fn compare_trackers(&mut self) {
-        let letters = &self.machine.letters;
-        let mut due = Fields::zero();
-        due.length = letters.len();
-        due.bytes[..letters.len()].copy_from_slice(letters);
-        self.prefixes.follow(letters);
-        due.board = self.prefixes.board();
+        let due = self.machine.tracker(&mut self.prefixes);
         assert_same_fields(&self.library, &due);
         assert_same_fields(&self.by_fields, &due);
     }
@@ -263,6 +258,7 @@ fn replays() {
         tracker.length = generator.below(1000);
         tracker.bytes.fill(generator.byte());
         tracker.board.fill(generator.byte());
+        any_totals(&mut tracker, &mut generator);
         let (answer_due, out_due) = lent(places, |out| Reference.replay(&mut due, &calls, out));
         let (answer, out) = lent(places, |out| Library.replay(&mut tracker, &calls, out));
         assert_eq!(answer, answer_due);
@@ -302,6 +298,7 @@ fn fresh_is_all_zero() {
         tracker.length = generator.below(1 << 40);
         tracker.bytes.fill_with(|| generator.byte());
         tracker.board.fill_with(|| generator.byte());
+        any_totals(&mut tracker, &mut generator);
         Library.fresh(&mut tracker);
         assert_same_fields(&tracker, &Fields::zero());
     }

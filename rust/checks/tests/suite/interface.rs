@@ -404,11 +404,15 @@ fn a_tracker_through_its_calls() {
     );
     assert_eq!(tracker.list(&mut out), Ok(16));
     assert_eq!(tracker.count(), Ok(16));
+    assert_eq!((tracker.live(), tracker.ended()), (16, 4));
     assert_eq!(tracker.take_back(), Ok(()));
     assert_eq!(tracker.letters(), b"abaabab");
+    let live = tracker.count().expect("its periods");
+    assert_eq!((tracker.live(), tracker.ended()), (live, 16 - live));
     tracker.clear();
     assert!(tracker == Tracker::default() && tracker.letters().is_empty());
     assert_eq!(tracker.count(), Ok(0));
+    assert_eq!((tracker.live(), tracker.ended()), (0, 0));
     for _ in 0..LONGEST {
         assert_eq!(tracker.add(b'a'), Ok(()));
     }

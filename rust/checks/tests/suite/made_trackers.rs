@@ -1,7 +1,8 @@
 //! Trackers that no calls have made, damaged or not, with any board: one call on the library and on the second implementation's step by
 //! fields. Answers, slices and every field afterwards are compared.
-use crate::support::{assert_count_and_list_agree, assert_same_fields, lent, marks};
-use crate::support::{not_a_letter, seeded, sparse, Shown};
+use crate::records::Call;
+use crate::support::{any_totals, assert_count_and_list_agree, assert_same_fields, lent, marks};
+use crate::support::{not_a_letter, seeded, sparse, step, Shown};
 use checks::calls::{Answer, Calls};
 use checks::generator::Generator;
 use checks::library::Library;
@@ -11,10 +12,12 @@ use luffbutton::{Fields, BOARD, LETTERS, LONGEST};
 /// To be held while a tracker is tried.
 fn shown(tracker: &Fields) -> Shown {
     Shown(format!(
-        "tracker: length {}, bytes {:?}, board {:?}",
+        "tracker: length {}, bytes {:?}, board {:?}, live {}, ended {}",
         tracker.length,
         sparse(&tracker.bytes),
-        sparse(&tracker.board)
+        sparse(&tracker.board),
+        tracker.live,
+        tracker.ended
     ))
 }
 
@@ -35,7 +38,7 @@ fn entry(generator: &mut Generator, length: usize) -> u8 {
     generator.pick(&[0, 0, 1, here, next, LONGEST as u8, 255, any])
 }
 
-/// A tracker that is not damaged: letters within the length, any bytes beyond it, any board, sparse or dense.
+/// A tracker that is not damaged: letters within the length, any bytes beyond it, any board, sparse or dense, and any totals.
 fn made(generator: &mut Generator) -> Fields {
     let mut tracker = Fields::zero();
     tracker.length = length(generator);
@@ -57,6 +60,7 @@ fn made(generator: &mut Generator) -> Fields {
             tracker.board[place] = entry(generator, letters.len());
         }
     }
+    any_totals(&mut tracker, generator);
     tracker
 }
 
@@ -222,6 +226,74 @@ fn calls_in_a_row_on_made_trackers() {
             assert_eq!(answer, due);
             assert_eq!(Library.count(&left), Reference.count(&right));
             assert_same_fields(&left, &right);
+        }
+    }
+}
+
+/// What stood in the totals changes no answer and nothing that a call leaves: each call on two trackers that differ in them alone. What is refused,
+/// a list and a count leave them as they came, each tracker's its own.
+#[test]
+fn totals_are_not_read() {
+    let mut generator = seeded(70);
+    let mut kept = 0;
+    for _ in 0..400 {
+        let tracker = if generator.once_in(4) {
+            damaged(&mut generator)
+        } else {
+            made(&mut generator)
+        };
+        let _shown = shown(&tracker);
+        let any = generator.byte();
+        let letter = generator.pick(&[b'a', b'b', any]);
+        let few = generator.below(300);
+        for call in [
+            Call::Add(letter),
+            Call::TakeBack,
+            Call::Clear,
+            Call::List(few),
+            Call::Count,
+        ] {
+            let (mut left, mut right) = (tracker.clone(), tracker.clone());
+            any_totals(&mut right, &mut generator);
+            let came = (right.live, right.ended);
+            let answered = step(&Library, &mut left, call);
+            assert_eq!(step(&Library, &mut right, call), answered, "{call:?}");
+            if answered.0.number != 0 || matches!(call, Call::List(_) | Call::Count) {
+                assert_same_fields(&left, &tracker);
+                assert_eq!((right.live, right.ended), came, "{call:?}");
+                (right.live, right.ended) = (tracker.live, tracker.ended);
+                kept += 1;
+            }
+            assert_same_fields(&left, &right);
+        }
+    }
+    assert!(kept >= 800, "{kept} calls kept the totals");
+}
+
+/// On a board of one value each accepted call leaves as many live or ended pairs as are in range, at every length: of zeros all are live after a
+/// take-back, and of entries that no length has all have ended.
+#[test]
+fn totals_of_boards_of_one_value() {
+    let mut generator = seeded(71);
+    for n in 1..=LONGEST {
+        let mut tracker = Fields::zero();
+        tracker.length = n;
+        let letters = generator.uniform(n, LETTERS);
+        tracker.bytes[..n].copy_from_slice(&letters);
+        any_totals(&mut tracker, &mut generator);
+        for (entry, live) in [(0, true), (n as u8, true), (255, false)] {
+            let mut shorter = tracker.clone();
+            shorter.board.fill(entry);
+            assert_eq!(Library.take_back(&mut shorter), Answer::default());
+            let pairs = n / 2 * ((n + 1) / 2);
+            let due = if live { (pairs, 0) } else { (0, pairs) };
+            assert_eq!((shorter.live, shorter.ended), due, "{n} letters, {entry}");
+        }
+        if n < LONGEST {
+            tracker.board.fill(255);
+            assert_eq!(Library.add(&mut tracker, b'a'), Answer::default());
+            let pairs = (n + 2) / 2 * ((n + 3) / 2);
+            assert_eq!((tracker.live, tracker.ended), (0, pairs), "{n} letters");
         }
     }
 }

@@ -129,6 +129,7 @@ fn p9_ended_lengths() {
             assert_eq!(entry(&tracker, h, p), m, "({h}, {p})");
         }
         assert_eq!(tracker.board.iter().filter(|&&entry| entry != 0).count(), 4);
+        assert_eq!((tracker.live, tracker.ended), (16, 4));
     }
 }
 

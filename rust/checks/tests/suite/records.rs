@@ -1,7 +1,7 @@
 //! Reads the records of wide.txt, letters.txt, runs.txt, windows.txt and reports.txt in tests/data. Lines that begin with # say how they are
 //! written.
 use checks::calls::Answer;
-use checks::reference::{pairs, Pair, Run};
+use checks::reference::{in_range, pairs, Pair, Run};
 use luffbutton::{Fields, Head, Period, BOARD, LONGEST};
 use std::collections::HashMap;
 
@@ -264,12 +264,22 @@ fn answered(line: &Line) -> Answered {
     }
 }
 
+/// Sets the totals that an accepted add, take-back or clear leaves, by the entries of the pairs in range. The files are from before request C-19,
+/// and have none.
+fn set_totals(fields: &mut Fields) {
+    let all = fields.board.iter().zip(pairs(LONGEST));
+    let entries = all.filter_map(|(&entry, pair)| in_range(fields.length, pair).then_some(entry));
+    let (live, ended): (Vec<u8>, Vec<u8>) = entries.partition(|&entry| entry == 0);
+    (fields.live, fields.ended) = (live.len(), ended.len());
+}
+
 /// A tracker that holds the letters, with the entries.
 fn holding(letters: &str, entries: &str) -> Fields {
     let mut fields = Fields::zero();
     fields.length = letters.len();
     fields.bytes[..letters.len()].copy_from_slice(letters.as_bytes());
     fields.board = board(entries);
+    set_totals(&mut fields);
     fields
 }
 
@@ -285,7 +295,7 @@ fn history_record(lines: &[Line]) -> CallsRecord {
     }
 }
 
-/// A tracker by its fields: the length, the bytes that are not 0 by place, the entries that are not 0 by pair.
+/// A tracker by its fields: the length, the bytes that are not 0 by place, the entries that are not 0 by pair; and totals that no board has.
 fn fields(text: &str) -> Fields {
     let columns: Vec<&str> = text.split('|').collect();
     let mut fields = Fields::zero();
@@ -294,6 +304,7 @@ fn fields(text: &str) -> Fields {
         fields.bytes[part[0]] = part[1] as u8;
     }
     fields.board = board(columns[2]);
+    (fields.live, fields.ended) = (BOARD + 1, BOARD + 2);
     fields
 }
 
@@ -301,11 +312,15 @@ fn made_record(lines: &[Line]) -> CallsRecord {
     let [(line, _, before), call, (_, "after", after)] = lines else {
         panic!("line {}: no made tracker", lines[0].0);
     };
+    let (answered, mut after) = (answered(call), fields(after));
+    if answered.answer.number == 0 && !matches!(answered.call, Call::List(_)) {
+        set_totals(&mut after);
+    }
     CallsRecord {
         line: *line,
         before: fields(before),
-        calls: vec![answered(call)],
-        after: fields(after),
+        calls: vec![answered],
+        after,
     }
 }
 

@@ -4,7 +4,7 @@ use checks::calls::{Answer, Calls};
 use checks::generator::Generator;
 use checks::library::Library;
 use checks::reference::{is_letter, pairs, Reference};
-use luffbutton::{Fields, FIRST_LETTER, LETTERS, LONGEST, MOST_FULL, MOST_REPORT};
+use luffbutton::{Fields, BOARD, FIRST_LETTER, LETTERS, LONGEST, MOST_FULL, MOST_REPORT};
 
 /// The library and the second implementation.
 pub const BOTH: [&dyn Calls; 2] = [&Library, &Reference];
@@ -250,6 +250,14 @@ pub fn step(calls: &dyn Calls, tracker: &mut Fields, call: Call) -> (Answer, Vec
     }
 }
 
+/// Sets both totals of a tracker to any number. No call reads them.
+pub fn any_totals(tracker: &mut Fields, generator: &mut Generator) {
+    for total in [&mut tracker.live, &mut tracker.ended] {
+        let some = generator.below(BOARD + 1);
+        *total = generator.pick(&[0, 1, some, BOARD, 1 << 40, usize::MAX]);
+    }
+}
+
 /// The entries that are not 0, of bytes or a board, by place.
 pub fn sparse(entries: &[u8]) -> Vec<(usize, u8)> {
     let all = entries.iter().copied().enumerate();
@@ -262,6 +270,8 @@ pub fn assert_same_fields(left: &Fields, right: &Fields) {
         assert_eq!(left.length, right.length, "the length");
         assert_eq!(sparse(&left.bytes), sparse(&right.bytes), "the bytes");
         assert_eq!(sparse(&left.board), sparse(&right.board), "the board");
+        assert_eq!(left.live, right.live, "live");
+        assert_eq!(left.ended, right.ended, "ended");
     }
 }
 

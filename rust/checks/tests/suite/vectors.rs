@@ -135,6 +135,8 @@ fn ended_lengths_agree(calls: &dyn Calls) {
         due.length = record.word.len();
         due.bytes[..due.length].copy_from_slice(&record.word);
         due.board = record.board;
+        due.live = record.periods.len();
+        due.ended = pairs(due.length).len() - due.live;
         assert_same_fields(&tracker, &due);
         let (words, _) = due_list("list_plain", &record);
         let (answer, out) = lent(words.len() + 5, |out| calls.list(&tracker, out));

@@ -1,5 +1,5 @@
--- `board::ending::end_row` meets its contract. The invariant of its loop: the row has been gone through up to the head h, and the trials are
--- the open pairs passed. The measure is what is left of the row. Assumes nothing.
+-- `board::ending::end_row` meets its contract. The invariant of its loop: the row has been gone through up to the head h. The measure is what is
+-- left of the row. Assumes nothing.
 use mathlib.Core.Path.{_≡_, refl, sym, ap, ap₂, _∙_}
 use mathlib.Core.Logic.{⊎-elim}
 use mathlib.Core.List.{List}
@@ -19,16 +19,16 @@ use Rattle.abelian.proofs.Pairs.{InRange, range-in, in-range-longer, heads-in-r
 use Rattle.board.specs.Places.{placeOf, rowStart, entryAt}
 use Rattle.board.specs.Ending.{rowOpen, rowEnded}
 use Rattle.board.proofs.Rows.{row-end}
-use Rattle.board.proofs.EndedRows.{below, none-below, entry-untouched, next-below, kept-below, all-below, openBelow, open-below, ended-below, out-of-range-kept, ended-kept, period-kept, open-ended}
+use Rattle.board.proofs.EndedRows.{below, all-below, openBelow, out-of-range-kept, RowGone, no-head-gone, entry-read, head-passed, head-live, head-ended}
 use borrow.Author.Needs.{needs}
 use Rattle.board.proofs.ending.end_row.Statement.{statement}
 use Rattle.board.proofs.ending.end_row.Tie as tie
 
 abbrev Inv-loop : tie.InvT-loop
-Inv-loop word counts period board₀ n start heads tried₀ h₀ board tried h = (h ≤ heads) × (tried ≤ h) × (tried ≡ length (openBelow board₀ (period .0) h)) × (board ≡ boardOf (below (entryAdded word) (period .0) h board₀))
+Inv-loop word counts period board₀ n start heads tried₀ live₀ h₀ board tried live h = (h ≤ heads) × RowGone word board₀ (period .0) board tried live h
 
 abbrev μ-loop : tie.MeasureT-loop
-μ-loop word counts period board₀ n start heads tried₀ h₀ board tried h = heads - h
+μ-loop word counts period board₀ n start heads tried₀ live₀ h₀ board tried live h = heads - h
 
 row-start-requires : tie.Need-row-start-requires Inv-loop μ-loop
 row-start-requires c κs = omega (arith, c .before .pre .1 .1, c .before .pre .0 .short)
@@ -72,7 +72,7 @@ module _ (c : tie.After-row-heads Inv-loop μ-loop) where
   in-row h l = heads-in-range (start .pre .1 .1 .0) (start .pre .1 .1 .1) l
 
 loop-holds : tie.Need-loop-holds Inv-loop μ-loop
-loop-holds c = (omega arith, omega arith, refl, none-below (entryAdded (word c)) (p c) (board c) (long c))
+loop-holds c = (omega arith, no-head-gone (word c) (board c) (p c) (long c))
 
 add-at : tie.Need-add-at Inv-loop μ-loop
 unfolding boardSize
@@ -84,6 +84,9 @@ element-copy-out-if1 c = omega (arith, on-board (c .before .before), begins (c .
 
 add-tried : tie.Need-add-tried Inv-loop μ-loop
 add-tried c = search needs
+
+add-live : tie.Need-add-live Inv-loop μ-loop
+add-live c = search needs
 
 holds-requires : tie.Need-holds-requires Inv-loop μ-loop
 holds-requires c κs =
@@ -111,42 +114,32 @@ loop-again c =
     let r = i .before .before in
     let h = i .before .loop .h in
     let x = pair h (p r) in
-    let b = i .before .loop .board in
-    let less : h < Periods.heads (length (word r)) (p r) = omega (arith, has r, i .loop-test .taken) in
-    let range : InRange (length (word r)) x = in-row r h less in
+    let g = i .before .loop .inv .1 in
+    let range : InRange (length (word r)) x = in-row r h (omega (arith, has r, i .loop-test .taken)) in
     let inside : T (inRange longest x) = range-in longest x (in-range-longer range (start r .pre .0 .short)) in
     let at : r .before .row-start .result + h ≡ placeOf x = place-at r h in
-    let entry : getD b (r .before .row-start .result + h) 0 ≡ entryAt (board r) x =
-    ap₂ (λ l k. getD l k 0) (i .before .loop .inv .3) at ∙ entry-untouched (entryAdded (word r)) (p r) (board r) (long r) h inside in
-    let kept : entryAdded (word r) x (entryAt (board r) x) ≡ entryAt (board r) x → b ≡ boardOf (below (entryAdded (word r)) (p r) (suc h) (board r)) =
-    λ e. i .before .loop .inv .3 ∙ kept-below (entryAdded (word r)) (p r) (board r) (long r) h inside e in (
+    let entry : getD (i .before .loop .board) (r .before .row-start .result + h) 0 ≡ entryAt (board r) x =
+    ap (λ (k : ℕ). getD (i .before .loop .board) k 0) at ∙ entry-read (word r) (board r) (p r) (long r) g range inside in (
       omega (arith, i .loop-test .taken),
-      ⊎-elim (λ w. omega (arith, w .4, i .before .loop .inv .1)) (⊎-elim (λ w. omega (arith, w .4, i .before .loop .inv .1)) (λ w. omega (arith, w .2, i .before .loop .inv .1))) (c .if1 .came),
-      rw add-one
-          (⊎-elim (λ w. omega (arith, w .4, i .before .loop .inv .2, open-below (board r) (p r) h (sym entry ∙ w .0 .taken)))
-          (⊎-elim (λ w. omega (arith, w .4, i .before .loop .inv .2, open-below (board r) (p r) h (sym entry ∙ w .0 .taken)))
-          (λ w. omega (arith, w .2, i .before .loop .inv .2, ended-below (board r) (p r) h (λ z. w .0 .left (entry ∙ z)))))
-          (c .if1 .came)),
-      rw add-one
+      ⊎-elim
+          (λ w. rw (w .3, w .4, w .5) (head-live (word r) (board r) (p r) (long r) g range inside (sym entry ∙ w .0 .taken) (sym (w .1 .ensures) ∙ w .2 .taken)))
           (⊎-elim
-          (λ w. w .3
-          ∙ ap₂ (λ l k. set l k (length (word r))) (i .before .loop .inv .3) at
-          ∙ ap (set (boardOf (below (entryAdded (word r)) (p r) h (board r))) (placeOf x))
-          (sym (open-ended (word r) x (entryAt (board r) x) (sym entry ∙ w .0 .taken) (is-true (inRange (length (word r)) x) (range-in (length (word r)) x range)) (sym (w .1 .ensures) ∙ not-true _ (w .2 .taken))))
-          ∙ next-below (entryAdded (word r)) (p r) (board r) (long r) h inside)
-          (⊎-elim (λ w. w .3 ∙ kept (period-kept (word r) x (entryAt (board r) x) (sym (w .1 .ensures) ∙ not-false _ (w .2 .left))))
-          (λ w. w .1 ∙ kept (ended-kept (word r) x (entryAt (board r) x) (λ z. w .0 .left (entry ∙ z)))))
-          (c .if1 .came)),
+          (λ w. rw (w .3, w .4, w .5, at) (head-ended (word r) (board r) (p r) (long r) g range inside (sym entry ∙ w .0 .taken) (sym (w .1 .ensures) ∙ w .2 .left)))
+          (λ w. rw (w .1, w .2, w .3) (head-passed (word r) (board r) (p r) (long r) g range inside (λ z. w .0 .left (entry ∙ z)))))
+          (c .if1 .came),
     )
 
 returns : tie.Need-returns Inv-loop μ-loop
 unfolding rowOpen rowEnded Periods.row
 returns c =
     let r = c .before .before in
-    let e : c .before .loop .h ≡ Periods.heads (length (word r)) (p r) = omega (arith, has r) in (
-      c .before .loop .inv .2 ∙ ap (λ (k : ℕ). length (openBelow (board r) (p r) k)) e,
-      c .before .loop .inv .3 ∙ ap (λ (k : ℕ). boardOf (below (entryAdded (word r)) (p r) k (board r))) e
-          ∙ all-below (entryAdded (word r)) (p r) (board r) (long r) (length (word r)) (out-of-range-kept (word r)),
+    let g = c .before .loop .inv .1 in
+    let e : c .before .loop .h ≡ Periods.heads (length (word r)) (p r) = omega (arith, has r) in
+    let row : c .before .loop .board ≡ rowEnded (word r) (p r) (board r) =
+    g .ended ∙ ap (λ (k : ℕ). boardOf (below (entryAdded (word r)) (p r) k (board r))) e
+    ∙ all-below (entryAdded (word r)) (p r) (board r) (long r) (length (word r)) (out-of-range-kept (word r)) in (
+      g .counted ∙ ap (λ (k : ℕ). length (openBelow (board r) (p r) k)) e,
+      (g .left-open ∙ ap₂ (λ (b : List ℕ) (k : ℕ). length (openBelow b (p r) k)) (sym row) e, row),
     )
 
 pub end-row-spec : {M : Type 1} → statement M
@@ -162,6 +155,7 @@ end-row-spec =
     element-copy-out-if1
     add-tried
     holds-requires
+    add-live
     cast-board
     element-write-board
     add-h

@@ -9,14 +9,14 @@ take-back-requires : tie.Need-take-back-requires
 take-back-requires c κs = search needs
 
 returns : tie.Need-returns
-returns c = c .take-back .ensures ∙ sym (takes-back _ _ (c .before .before .before .before .if1 .taken))
+returns c = c .take-back .ensures ∙ sym (takes-back _ _ (c .before .before .before .before .before .before .if1 .taken))
 
 clear-requires : tie.Need-clear-requires
 clear-requires c κs = search needs
 
 returns-2 : tie.Need-returns-2
 returns-2 c =
-    let clear = c .before .before .before .before in
+    let clear = c .before .before .before .before .before .before in
     c .clear .ensures ∙ sym (clears _ _ (clear .before .if1 .left) (clear .if2 .taken))
 
 add-requires : tie.Need-add-requires
@@ -24,7 +24,7 @@ add-requires c κs = search needs
 
 returns-3 : tie.Need-returns-3
 returns-3 c =
-    let other = c .before .before .before .before in
+    let other = c .before .before .before .before .before .before in
     c .add .ensures ∙ sym (adds _ _ (other .before .if1 .left) (other .if2 .left))
 
 pub call-spec : {M : Type 1} → statement M

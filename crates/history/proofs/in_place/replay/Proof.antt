@@ -18,10 +18,10 @@ record Inv (calls : List ℕ) (tracker : Tracker) (refused i : ℕ) : Type 0 whe
   replayed : FirstReplayed calls i tracker refused
 
 abbrev Inv-loop : tie.InvT-loop
-Inv-loop calls out len₀ bytes₀ board₀ refused₀ i₀ len bytes board refused i = Inv calls (ofFields len bytes board) refused i
+Inv-loop calls out len₀ bytes₀ board₀ live₀ ended₀ refused₀ i₀ len bytes board live ended refused i = Inv calls (ofFields len bytes board live ended) refused i
 
 abbrev μ-loop : tie.MeasureT-loop
-μ-loop calls out len₀ bytes₀ board₀ refused₀ i₀ len bytes board refused i = length calls - i
+μ-loop calls out len₀ bytes₀ board₀ live₀ ended₀ refused₀ i₀ len bytes board live ended refused i = length calls - i
 
 clear-requires : tie.Need-clear-requires Inv-loop μ-loop
 clear-requires c κs = search needs
@@ -41,7 +41,7 @@ refused-calls-requires c κs = search needs
 
 add-refused : tie.Need-add-refused Inv-loop μ-loop
 add-refused c =
-    let old = c .before .before .before .before .before .before .before .loop in
+    let old = c .before .before .before .before .before .before .before .before .before .loop in
     omega (arith, refused-le _ _ (old .inv .replayed), at-most-one (c .before .call .result) _ (c .refused-calls .ensures))
 
 add-i : tie.Need-add-i Inv-loop μ-loop
@@ -52,7 +52,7 @@ loop-less c = omega arith
 
 loop-again : tie.Need-loop-again Inv-loop μ-loop
 loop-again c =
-    let old = c .before .before .before .before .before .before .before .loop in
+    let old = c .before .before .before .before .before .before .before .before .before .loop in
     record { within = omega arith; replayed = next-replayed _ _ (omega arith) (old .inv .replayed) _ _ (c .before .call .ensures) (c .refused-calls .ensures) }
 
 list-requires : tie.Need-list-requires Inv-loop μ-loop
@@ -64,7 +64,7 @@ same-length c = search needs
 returns : tie.Need-returns Inv-loop μ-loop
 returns c =
     let listed = c .before .before in
-    all-replayed _ _ _ (listed .before .before .before .before .before .before .loop .inv .replayed) (omega arith) _ (listed .list .ensures)
+    all-replayed _ _ _ (listed .before .before .before .before .before .before .loop .inv .replayed) (omega arith) _ (listed .list .ensures _ _)
 
 pub replay-spec : {M : Type 1} → statement M
 replay-spec =

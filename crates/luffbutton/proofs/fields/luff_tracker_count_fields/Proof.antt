@@ -12,7 +12,7 @@ of-needed-requires : tie.Need-of-needed-requires
 of-needed-requires c κs = search needs
 
 returns : tie.Need-returns
-returns c = ap (asStep _) (c .of-needed .ensures) ∙ c .before .count .ensures
+returns c live ended = ap (asStep _) (c .of-needed .ensures) ∙ c .before .count .ensures live ended
 
 pub luff-tracker-count-fields-spec : {M : Type 1} → statement M
 luff-tracker-count-fields-spec = tie.close (tie.spec count-requires of-needed-requires returns)

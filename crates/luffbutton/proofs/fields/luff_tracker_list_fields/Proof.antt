@@ -15,7 +15,7 @@ same-length : tie.Need-same-length
 same-length c = search needs
 
 returns : tie.Need-returns
-returns c = ap (asStep _) (c .of-wrote .ensures _) ∙ c .before .before .before .list .ensures
+returns c live ended = ap (asStep _) (c .of-wrote .ensures _) ∙ c .before .before .before .list .ensures live ended
 
 pub luff-tracker-list-fields-spec : {M : Type 1} → statement M
 luff-tracker-list-fields-spec =

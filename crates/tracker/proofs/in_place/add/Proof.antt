@@ -17,7 +17,7 @@ use Rattle.tracker.proofs.in_place.add.Tie as tie
 
 -- the tracker that came
 abbrev came : tie.Start → Tracker
-came s = ofFields (s .args .len .now) (s .args .bytes .now) (s .args .board .now)
+came s = ofFields (s .args .len .now) (s .args .bytes .now) (s .args .board .now) (s .args .live .now) (s .args .ended .now)
 
 is-damaged-requires : tie.Need-is-damaged-requires
 is-damaged-requires c κs = search needs
@@ -56,14 +56,14 @@ returns-3 c =
 store-letter-requires : tie.Need-store-letter-requires
 unfolding longest
 store-letter-requires c κs =
-    let room = c .before .before .before in
+    let room = c .before .before .before .before .before in
     let e = room .before .before .before in
     (sound e, (omega (arith, undamaged (old e) (sound e) .0, room .if3 .left), passes _ (inside (room .before))))
 
 returns-4 : tie.Need-returns-4
 unfolding longest
 returns-4 c =
-    let room = c .before .before .before .before in
+    let room = c .before .before .before .before .before .before in
     let e = room .before .before .before in
     ap accepted (c .store-letter .ensures) ∙ sym (adding-accepted (old e) _ (sound e) (inside (room .before)) (room .if3 .left))
 

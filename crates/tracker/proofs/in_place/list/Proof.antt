@@ -2,8 +2,9 @@
 use mathlib.Core.Path.{_≡_, sym, ap, _∙_}
 use mathlib.Core.Bool.{false}
 use mathlib.Core.List.{List}
-use Prim.Native.Nat.{ℕ}
+use Prim.Native.Nat.{ℕ, _≤_}
 use native.Mathlib.Omega.{arith}
+use Rattle.abelian.specs.Words.{longest}
 use Rattle.abelian.specs.Trackers.{damaged}
 use Rattle.abelian.specs.declared.Tracker.{Tracker}
 use Rattle.tracker.specs.Fields.{ofFields}
@@ -13,55 +14,58 @@ use borrow.Author.Needs.{needs}
 use Rattle.tracker.proofs.in_place.list.Statement.{statement}
 use Rattle.tracker.proofs.in_place.list.Tie as tie
 
--- the tracker that is lent
-abbrev lent : tie.Start → Tracker
-lent s = ofFields (s .args .len) (s .args .bytes .now) (s .args .board .now)
+-- the tracker that is lent, with any totals
+abbrev lent : tie.Start → ℕ → ℕ → Tracker
+lent s live ended = ofFields (s .args .len) (s .args .bytes .now) (s .args .board .now) live ended
 
 is-damaged-requires : tie.Need-is-damaged-requires
 is-damaged-requires c κs = search needs
 
 returns : tie.Need-returns
-returns c =
-    let old : Tracker = lent (c .before .before .before) in
+returns c live ended =
+    let old : Tracker = lent (c .before .before .before) live ended in
     sym (listing-damaged old _ (damage-found old (c .before .is-damaged .ensures) (c .if1 .taken)))
 
--- the tracker is not damaged
+-- the tracker is not damaged, whatever its totals are
 module _ (c : tie.Else1) where
-  abbrev old : Tracker
-  old = lent (c .before .before .before)
-
   abbrev out : List ℕ
   out = c .before .before .before .args .out .now
 
-  sound : damaged old ≡ false
-  sound = damage-found old (c .before .is-damaged .ensures) (c .if1 .left)
+  abbrev old : ℕ → ℕ → Tracker
+  old live ended = lent (c .before .before .before) live ended
+
+  sound : (live ended : ℕ) → damaged (old live ended) ≡ false
+  sound live ended = damage-found (old live ended) (c .before .is-damaged .ensures) (c .if1 .left)
+
+  short : c .before .before .before .args .len ≤ longest
+  short = undamaged (old 0 0) (sound 0 0) .0
 
 count-open-requires : tie.Need-count-open-requires
-count-open-requires c κs = undamaged (old c) (sound c) .0
+count-open-requires c κs = short c
 
 returns-2 : tie.Need-returns-2
-returns-2 c =
+returns-2 c live ended =
     let counted = c .before in
     let e = counted .before in
-    sym (listing-short (old e) (out e) (sound e) (counted .count-open .ensures) (c .if2 .taken))
+    sym (listing-short (old e live ended) (out e) (sound e live ended) (counted .count-open .ensures) (c .if2 .taken))
 
 write-open-requires : tie.Need-write-open-requires
 write-open-requires c κs =
     let fits = c .before in
     let counted = fits .before in
-    let e = counted .before in
-    (undamaged (old e) (sound e) .0, omega (arith, counted .count-open .ensures, fits .if2 .left))
+    (short (counted .before), omega (arith, counted .count-open .ensures, fits .if2 .left))
 
 same-length : tie.Need-same-length
 same-length c = search needs
 
 returns-3 : tie.Need-returns-3
-returns-3 c =
+returns-3 c live ended =
     let written = c .before .before in
     let fits = written .before .before in
     let counted = fits .before in
     let e = counted .before in
-    ap (listed (old e) _) (written .write-open .ensures) ∙ sym (listing-written (old e) (out e) (sound e) (counted .count-open .ensures) (fits .if2 .left))
+    ap (listed (old e live ended) _) (written .write-open .ensures)
+    ∙ sym (listing-written (old e live ended) (out e) (sound e live ended) (counted .count-open .ensures) (fits .if2 .left))
 
 pub list-spec : {M : Type 1} → statement M
 list-spec =

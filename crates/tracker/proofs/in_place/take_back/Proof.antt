@@ -14,7 +14,7 @@ use Rattle.tracker.proofs.in_place.take_back.Tie as tie
 
 -- the tracker that came
 abbrev came : tie.Start → Tracker
-came s = ofFields (s .args .len .now) (s .args .bytes .now) (s .args .board .now)
+came s = ofFields (s .args .len .now) (s .args .bytes .now) (s .args .board .now) (s .args .live .now) (s .args .ended .now)
 
 is-damaged-requires : tie.Need-is-damaged-requires
 is-damaged-requires c κs = search needs
@@ -37,12 +37,12 @@ returns-2 c = sym (takingBack-empty (old (c .before)) (sound (c .before)) (c .if
 
 remove-last-requires : tie.Need-remove-last-requires
 remove-last-requires c κs =
-    let held = c .before .before .before in
+    let held = c .before .before .before .before .before in
     (undamaged (old (held .before)) (sound (held .before)) .0, omega (arith, held .if2 .left))
 
 returns-3 : tie.Need-returns-3
 returns-3 c =
-    let held = c .before .before .before .before in
+    let held = c .before .before .before .before .before .before in
     ap accepted (c .remove-last .ensures) ∙ sym (takingBack-accepted (old (held .before)) (sound (held .before)) (held .if2 .left))
 
 pub take-back-spec : {M : Type 1} → statement M

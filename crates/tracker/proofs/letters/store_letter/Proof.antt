@@ -1,16 +1,19 @@
 -- `tracker::letters::store_letter` meets its contract: the letters then held are a word, whose prefixes are counted and whose pairs are ended.
 -- Assumes nothing.
-use mathlib.Core.Path.{_≡_, refl, sym, _∙_}
+use mathlib.Core.Path.{_≡_, refl, sym, ap, ap₂, _∙_}
 use mathlib.Core.List.{List}
-use Prim.Native.Nat.{ℕ, _+_, _≤_, _<_}
+use Prim.Native.Nat.{ℕ, _+_, _-_, _≤_, _<_}
 use native.Mathlib.Omega.{arith}
 use lib.ListN.{length, take, set, length-take, length-set}
 use lib.Dec.{T}
 use Rattle.abelian.specs.Words.{longest, ofLetters}
+use Rattle.abelian.specs.Trackers.{boardSize, openPairs}
 use Rattle.abelian.specs.declared.Tracker.{Tracker}
+use Rattle.board.specs.Ending.{allEnded}
+use Rattle.board.proofs.EndedRows.{length-ended}
 use Rattle.tracker.specs.Fields.{ofFields}
 use Rattle.tracker.proofs.Damage.{undamaged, letters-stored}
-use Rattle.tracker.proofs.Steps.{letter-added}
+use Rattle.tracker.proofs.Steps.{live-within, totalled, letter-added}
 use borrow.Author.Needs.{needs}
 use Rattle.tracker.proofs.letters.store_letter.Statement.{statement}
 use Rattle.tracker.proofs.letters.store_letter.Tie as tie
@@ -21,7 +24,7 @@ module _ (w : tie.After-whole) where
   start = w .before .before .before
 
   abbrev old : Tracker
-  old = ofFields (start .args .len .now) (start .args .bytes .now) (start .args .board .now)
+  old = ofFields (start .args .len .now) (start .args .bytes .now) (start .args .board .now) (start .args .live .now) (start .args .ended .now)
 
   abbrev letter : ℕ
   letter = start .args .letter
@@ -71,10 +74,38 @@ end-pairs-requires c κs =
     let w = counted .before .before .before .before .before .before in
     (record { all = letters w; short = short w; rows = counted .count-prefixes .ensures }, w .whole .ensures .1)
 
+-- the board that is left, and its live pairs
+module _ (c : tie.After-end-pairs) where
+  abbrev held : tie.After-whole
+  held = c .before .before .before .before .before .before .before .before .before
+
+  abbrev n : ℕ
+  n = old held .len + 1
+
+  abbrev board : List ℕ
+  board = allEnded (word held) (old held .board)
+
+  long : length board ≡ boardSize
+  long = length-ended (word held) (old held .board) (held .whole .ensures .1)
+
+  within : n ≤ longest
+  within = omega (arith, room held)
+
+  live : c .end-pairs .result .live ≡ length (openPairs n board)
+  live = c .end-pairs .ensures .1 .0 ∙ ap₂ (λ (m : ℕ) (b : List ℕ). length (openPairs m b)) (size held) (c .end-pairs .ensures .1 .1)
+
+pairs-in-range-requires : tie.Need-pairs-in-range-requires
+pairs-in-range-requires c κs = within c
+
+sub-ended : tie.Need-sub-ended
+sub-ended c = let e = c .before .before in live-within (n e) (board e) (within e) (long e) (live e) (c .before .pairs-in-range .ensures)
+
 returns : tie.Need-returns
 returns c =
-    let w = c .before .before .before .before .before .before .before .before .before in
-    letter-added (old w) (letter w) (c .end-pairs .ensures .1)
+    let e = c .before .before in
+    ap (λ (b : List ℕ). ofFields (n e) (bytes (held e)) b (e .end-pairs .result .live) (c .before .pairs-in-range .result - e .end-pairs .result .live)) (e .end-pairs .ensures .1 .1)
+    ∙ totalled (n e) (bytes (held e)) (board e) (within e) (long e) (live e) (c .before .pairs-in-range .ensures)
+    ∙ letter-added (old (held e)) (letter (held e))
 
 pub store-letter-spec : {M : Type 1} → statement M
 store-letter-spec =
@@ -86,4 +117,6 @@ store-letter-spec =
     slice-aggregate-word
     count-prefixes-requires
     end-pairs-requires
+    pairs-in-range-requires
+    sub-ended
     returns)

@@ -7,8 +7,10 @@
 use checks::calls::Answer;
 use luffbutton::numbers::{Counted, Listed, Outcome, Replayed, Scaled, Wrote};
 use luffbutton::{Fields, BOARD, LONGEST};
+use std::sync::OnceLock;
 
-/// Declares functions that both archives have, with the same parameters, answers and layouts.
+/// Declares functions that both archives have, with the same parameters, answers and layouts; but those that change a tracker take no totals in an
+/// archive from before request C-19.
 macro_rules! archives {
     ($($function:ident($($name:ident: $kind:ty),*) -> $answer:ty;)*) => {
         /// The functions of an archive.
@@ -39,6 +41,9 @@ macro_rules! archives {
 type Bytes = [u8; LONGEST];
 type Board = [u8; BOARD];
 
+/// The add of an archive from before request C-19.
+type AddWithoutTotals = unsafe extern "C" fn(*mut usize, *mut Bytes, *mut Board, u8) -> Outcome;
+
 archives! {
     luff_list_plain(word: *const u8, n: usize, out: *mut u32, places: usize) -> Listed;
     luff_list_skipping(word: *const u8, n: usize, out: *mut u32, places: usize) -> Listed;
@@ -54,11 +59,12 @@ archives! {
     luff_count_squares(word: *const u8, n: usize) -> Counted;
     luff_count_runs(word: *const u8, n: usize) -> Counted;
     luff_count_report(word: *const u8, n: usize) -> Counted;
-    luff_tracker_add_fields(length: *mut usize, bytes: *mut Bytes, board: *mut Board, letter: u8) -> Outcome;
-    luff_tracker_take_back_fields(length: *mut usize, bytes: *mut Bytes, board: *mut Board) -> Outcome;
+    luff_tracker_add_fields(length: *mut usize, bytes: *mut Bytes, board: *mut Board, live: *mut usize, ended: *mut usize, letter: u8) -> Outcome;
+    luff_tracker_take_back_fields(length: *mut usize, bytes: *mut Bytes, board: *mut Board, live: *mut usize, ended: *mut usize) -> Outcome;
+    luff_tracker_clear_fields(length: *mut usize, bytes: *mut Bytes, board: *mut Board, live: *mut usize, ended: *mut usize) -> Outcome;
     luff_tracker_list_fields(length: usize, bytes: *const Bytes, board: *const Board, out: *mut u32, places: usize) -> Wrote;
     luff_tracker_count_fields(length: usize, bytes: *const Bytes, board: *const Board) -> Counted;
-    luff_tracker_replay_fields(calls: *const u8, n: usize, out: *mut u32, places: usize, length: *mut usize, bytes: *mut Bytes, board: *mut Board) -> Replayed;
+    luff_tracker_replay_fields(calls: *const u8, n: usize, out: *mut u32, places: usize, length: *mut usize, bytes: *mut Bytes, board: *mut Board, live: *mut usize, ended: *mut usize) -> Replayed;
 }
 
 /// A list call of an archive on a word.
@@ -147,16 +153,44 @@ impl Archive {
         count_by(self.luff_count_full, word).refusal != 2
     }
 
+    /// Whether the archive's trackers have totals. One from before request C-19 leaves them as they are.
+    pub fn has_totals(&self) -> bool {
+        static BOTH_HAVE: OnceLock<[bool; 2]> = OnceLock::new();
+        let have = BOTH_HAVE.get_or_init(|| [0, 1].map(|place| BOTH[place].clears_totals()));
+        have[usize::from(!std::ptr::eq(self, &BOTH[0]))]
+    }
+
+    fn clears_totals(&self) -> bool {
+        let mut tracker = Fields::zero();
+        tracker.live = 1;
+        let (length, bytes, board) = (&mut tracker.length, &mut tracker.bytes, &mut tracker.board);
+        let (live, ended) = (&mut tracker.live, &mut tracker.ended);
+        // SAFETY: the fields are five places of one struct. A function of an older archive takes the first three and leaves the registers of the
+        // others alone, as System V calls allow.
+        unsafe { (self.luff_tracker_clear_fields)(length, bytes, board, live, ended) };
+        tracker.live == 0
+    }
+
     pub fn add(&self, tracker: &mut Fields, letter: u8) -> Outcome {
-        let (length, bytes) = (&mut tracker.length, &mut tracker.bytes);
-        // SAFETY: the fields are three places of one struct.
-        unsafe { (self.luff_tracker_add_fields)(length, bytes, &mut tracker.board, letter) }
+        let (length, bytes, board) = (&mut tracker.length, &mut tracker.bytes, &mut tracker.board);
+        let add = self.luff_tracker_add_fields;
+        if self.has_totals() {
+            let (live, ended) = (&mut tracker.live, &mut tracker.ended);
+            // SAFETY: the fields are five places of one struct.
+            return unsafe { add(length, bytes, board, live, ended, letter) };
+        }
+        // SAFETY: the fields are three places of one struct, and this is the function's type in an archive without totals.
+        unsafe {
+            let add: AddWithoutTotals = std::mem::transmute(add);
+            add(length, bytes, board, letter)
+        }
     }
 
     pub fn take_back(&self, tracker: &mut Fields) -> Outcome {
-        let (length, bytes) = (&mut tracker.length, &mut tracker.bytes);
-        // SAFETY: the fields are three places of one struct.
-        unsafe { (self.luff_tracker_take_back_fields)(length, bytes, &mut tracker.board) }
+        let (length, bytes, board) = (&mut tracker.length, &mut tracker.bytes, &mut tracker.board);
+        let (live, ended) = (&mut tracker.live, &mut tracker.ended);
+        // SAFETY: the fields are five places of one struct; an older archive takes the first three.
+        unsafe { (self.luff_tracker_take_back_fields)(length, bytes, board, live, ended) }
     }
 
     pub fn list(&self, tracker: &Fields, out: &mut [u32]) -> Wrote {
@@ -173,7 +207,8 @@ impl Archive {
     }
 
     pub fn replay(&self, tracker: &mut Fields, calls: &[u8], out: &mut [u32]) -> Replayed {
-        // SAFETY: both slices are valid for their lengths, and the fields are three places of one struct.
+        // SAFETY: both slices are valid for their lengths, and the fields are five places of one struct; an older archive takes the first
+        // three.
         unsafe {
             (self.luff_tracker_replay_fields)(
                 calls.as_ptr(),
@@ -183,6 +218,8 @@ impl Archive {
                 &mut tracker.length,
                 &mut tracker.bytes,
                 &mut tracker.board,
+                &mut tracker.live,
+                &mut tracker.ended,
             )
         }
     }

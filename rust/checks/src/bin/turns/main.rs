@@ -4,7 +4,7 @@
 //!     rust/turns OLD_ARCHIVE
 //!
 //! prints a table. Both archives' answers, lists and trackers are asserted to be the same before a call is timed, but for the full period n,
-//! which archives from before request C-18 have. A word with letters that the older archive does not have is timed on this one alone.
+//! which archives from before request C-18 have, and for a tracker's totals, which those from before C-19 have not. A word with letters that the older archive does not have is timed on this one alone.
 #![deny(unsafe_code)]
 
 mod archives;
@@ -125,6 +125,14 @@ fn tracked(letters: &[u8]) -> Fields {
     tracker
 }
 
+/// What is compared of a tracker: all of it, or all but the totals where the older archive has none.
+fn compared(mut tracker: Fields) -> Fields {
+    if !BOTH.iter().all(Archive::has_totals) {
+        (tracker.live, tracker.ended) = (0, 0);
+    }
+    tracker
+}
+
 /// A tracker that begins where a line of the cache does, so that both archives' copies lie alike.
 #[derive(Clone)]
 #[repr(align(64))]
@@ -138,7 +146,7 @@ fn time_change<T: PartialEq>(
 ) -> Vec<f64> {
     assert_same(word, |archive| {
         let mut tracker = start.clone();
-        (change(archive, &mut tracker), tracker)
+        (change(archive, &mut tracker), compared(tracker))
     });
     time_readers(word, |archive| {
         let (start, change) = (Aligned(start.clone()), &change);
@@ -185,7 +193,7 @@ fn time_replay(word: &[u8]) -> Vec<f64> {
     assert_same(word, |archive| {
         let (mut tracker, mut out) = lent();
         let answer = archive.replay(&mut tracker, word, &mut out);
-        (answer, tracker, out)
+        (answer, compared(tracker), out)
     });
     let lent = RefCell::new(lent());
     time_readers(word, |archive| {
