@@ -155,74 +155,71 @@ row-entry w board h p long i =
     ∙ boardOf-at (λ (x : Pair). entryInRow (entryAdded w) p x (entryAt board x)) (pair h p) i
     ∙ rw (eq-eqb p p refl)
 
--- the row of p has been gone through up to the head h: how many pairs were tried, how many of them are live, and what is left
-pub record RowGone (w old : List ℕ) (p : ℕ) (board : List ℕ) (tried live h : ℕ) : Type 0 where
-  pub few-tried : tried ≤ h
-  pub few-live : live ≤ h
+-- the row of p has been gone through up to the head h: how many pairs were tried, how many of them have ended, and what is left
+pub record RowGone (w old : List ℕ) (p : ℕ) (board : List ℕ) (tried ended h : ℕ) : Type 0 where
+  pub few : tried ≤ h
   pub counted : tried ≡ length (openBelow old p h)
-  pub left-open : live ≡ length (openBelow (rowEnded w p old) p h)
-  pub ended : board ≡ boardOf (below (entryAdded w) p h old)
+  pub left-open : tried ≡ length (openBelow (rowEnded w p old) p h) + ended
+  pub gone : board ≡ boardOf (below (entryAdded w) p h old)
 
 module _ (w old : List ℕ) (p : ℕ) (long : length old ≡ boardSize) where
   pub no-head-gone : RowGone w old p old 0 0 0
-  no-head-gone = record { few-tried = omega arith; few-live = omega arith; counted = refl; left-open = refl; ended = none-below (entryAdded w) p old long }
+  no-head-gone = record { few = omega arith; counted = refl; left-open = refl; gone = none-below (entryAdded w) p old long }
 
-  module _ {board : List ℕ} {tried live h : ℕ} (g : RowGone w old p board tried live h) (r : InRange (length w) (pair h p)) (i : T (inRange longest (pair h p))) where
+  module _ {board : List ℕ} {tried ended h : ℕ} (g : RowGone w old p board tried ended h) (r : InRange (length w) (pair h p)) (i : T (inRange longest (pair h p))) where
     abbrev x : Pair
     x = pair h p
 
+    -- the entry of the pair, as it was and as it is when the row has been gone through
     abbrev e : ℕ
     e = entryAt old x
-
-    -- the entry that is read is the old one
-    pub entry-read : entryAt board x ≡ e
-    entry-read = ap (λ (b : List ℕ). entryAt b x) (g .ended) ∙ entry-untouched (entryAdded w) p old long h i
 
     abbrev new : ℕ
     new = entryAt (rowEnded w p old) x
 
+    -- the entry that is read is the old one
+    pub entry-read : entryAt board x ≡ e
+    entry-read = ap (λ (b : List ℕ). entryAt b x) (g .gone) ∙ entry-untouched (entryAdded w) p old long h i
+
     kept : entryAdded w x e ≡ e → board ≡ boardOf (below (entryAdded w) p (suc h) old)
-    kept k = g .ended ∙ kept-below (entryAdded w) p old long h i k
+    kept k = g .gone ∙ kept-below (entryAdded w) p old long h i k
 
     -- a pair that had ended is passed
-    pub head-passed : e ≢ 0 → RowGone w old p board tried live (h + 1)
+    pub head-passed : e ≢ 0 → RowGone w old p board tried ended (h + 1)
     head-passed n =
         let k : entryAdded w x e ≡ e = ended-kept w x e n in
         let m : new ≢ 0 = λ z. n (sym k ∙ sym (row-entry w old h p long i) ∙ z) in
         rw add-one
         (record {
-          few-tried = omega (arith, g .few-tried);
-          few-live = omega (arith, g .few-live);
+          few = omega (arith, g .few);
           counted = omega (arith, g .counted, ended-below old p h n);
           left-open = omega (arith, g .left-open, ended-below (rowEnded w p old) p h m);
-          ended = kept k;
+          gone = kept k;
         })
 
     -- an open pair that is an Abelian period is live
-    pub head-live : e ≡ 0 → isPeriod w x ≡ true → RowGone w old p board (tried + 1) (live + 1) (h + 1)
+    pub head-live : e ≡ 0 → isPeriod w x ≡ true → RowGone w old p board (tried + 1) ended (h + 1)
     head-live z t =
         let k : entryAdded w x e ≡ e = period-kept w x e t in
         rw (add-one h)
         (record {
-          few-tried = omega (arith, g .few-tried);
-          few-live = omega (arith, g .few-live);
+          few = omega (arith, g .few);
           counted = omega (arith, g .counted, open-below old p h z);
           left-open = omega (arith, g .left-open, open-below (rowEnded w p old) p h (row-entry w old h p long i ∙ k ∙ z));
-          ended = kept k;
+          gone = kept k;
         })
 
     -- and one that is none ends
-    pub head-ended : e ≡ 0 → isPeriod w x ≡ false → RowGone w old p (set board (placeOf x) (length w)) (tried + 1) live (h + 1)
+    pub head-ended : e ≡ 0 → isPeriod w x ≡ false → RowGone w old p (set board (placeOf x) (length w)) (tried + 1) (ended + 1) (h + 1)
     head-ended z f =
         let k : entryAdded w x e ≡ length w = open-ended w x e z (is-true (inRange (length w) x) (range-in (length w) x r)) f in
         let n : new ≢ 0 = λ q. let q′ : length w ≡ 0 = sym k ∙ sym (row-entry w old h p long i) ∙ q in omega (arith, r .positive, r .fits) in
         rw (add-one h)
         (record {
-          few-tried = omega (arith, g .few-tried);
-          few-live = omega (arith, g .few-live);
+          few = omega (arith, g .few);
           counted = omega (arith, g .counted, open-below old p h z);
           left-open = omega (arith, g .left-open, ended-below (rowEnded w p old) p h n);
-          ended = ap₂ (λ b v. set b (placeOf x) v) (g .ended) (sym k) ∙ next-below (entryAdded w) p old long h i;
+          gone = ap₂ (λ b v. set b (placeOf x) v) (g .gone) (sym k) ∙ next-below (entryAdded w) p old long h i;
         })
 
 -- ---- a board, row by row

@@ -21,7 +21,8 @@ pub struct Trials {
     pub live: usize,
 }
 
-// Ends the pairs of one period, and returns how many were tried and how many of them are live.
+// Ends the pairs of one period, and returns how many were tried and how many of them are live. Those that end are counted, and not the live ones,
+// since most open pairs of a tracker are live.
 fn end_row(
     word: &[u8],
     counts: &[[u8; WIDTH]; ROWS],
@@ -39,20 +40,20 @@ fn end_row(
     let start = row_start(period);
     let heads = row_heads(n, period);
     let mut tried = 0;
-    let mut live = 0;
+    let mut ended = 0;
     let mut h = 0;
     while h < heads {
         let at = start + h;
         if board[at] == 0 {
             tried += 1;
-            if holds(word, counts, Head(h), period) {
-                live += 1;
-            } else {
+            if !holds(word, counts, Head(h), period) {
                 board[at] = n as u8;
+                ended += 1;
             }
         }
         h += 1;
     }
+    let live = tried - ended;
     Trials { tried, live }
 }
 

@@ -25,10 +25,10 @@ use Rattle.board.proofs.ending.end_row.Statement.{statement}
 use Rattle.board.proofs.ending.end_row.Tie as tie
 
 abbrev Inv-loop : tie.InvT-loop
-Inv-loop word counts period board₀ n start heads tried₀ live₀ h₀ board tried live h = (h ≤ heads) × RowGone word board₀ (period .0) board tried live h
+Inv-loop word counts period board₀ n start heads tried₀ ended₀ h₀ board tried ended h = (h ≤ heads) × RowGone word board₀ (period .0) board tried ended h
 
 abbrev μ-loop : tie.MeasureT-loop
-μ-loop word counts period board₀ n start heads tried₀ live₀ h₀ board tried live h = heads - h
+μ-loop word counts period board₀ n start heads tried₀ ended₀ h₀ board tried ended h = heads - h
 
 row-start-requires : tie.Need-row-start-requires Inv-loop μ-loop
 row-start-requires c κs = omega (arith, c .before .pre .1 .1, c .before .pre .0 .short)
@@ -85,9 +85,6 @@ element-copy-out-if1 c = omega (arith, on-board (c .before .before), begins (c .
 add-tried : tie.Need-add-tried Inv-loop μ-loop
 add-tried c = search needs
 
-add-live : tie.Need-add-live Inv-loop μ-loop
-add-live c = search needs
-
 holds-requires : tie.Need-holds-requires Inv-loop μ-loop
 holds-requires c κs =
     let i = c .before .before in
@@ -101,6 +98,9 @@ cast-board c = omega (arith, start (c .before .before .before .before .before .b
 element-write-board : tie.Need-element-write-board Inv-loop μ-loop
 unfolding boardSize
 element-write-board c = let r = c .before .before .before .before .before .before in omega (arith, on-board r, begins r, has r, c .before .before .before .before .loop-test .taken)
+
+add-ended : tie.Need-add-ended Inv-loop μ-loop
+add-ended c = search needs
 
 add-h : tie.Need-add-h Inv-loop μ-loop
 add-h c = search needs
@@ -122,12 +122,15 @@ loop-again c =
     ap (λ (k : ℕ). getD (i .before .loop .board) k 0) at ∙ entry-read (word r) (board r) (p r) (long r) g range inside in (
       omega (arith, i .loop-test .taken),
       ⊎-elim
-          (λ w. rw (w .3, w .4, w .5) (head-live (word r) (board r) (p r) (long r) g range inside (sym entry ∙ w .0 .taken) (sym (w .1 .ensures) ∙ w .2 .taken)))
+          (λ w. rw (w .3, w .4, w .5, at) (head-ended (word r) (board r) (p r) (long r) g range inside (sym entry ∙ w .0 .taken) (sym (w .1 .ensures) ∙ not-true _ (w .2 .taken))))
           (⊎-elim
-          (λ w. rw (w .3, w .4, w .5, at) (head-ended (word r) (board r) (p r) (long r) g range inside (sym entry ∙ w .0 .taken) (sym (w .1 .ensures) ∙ w .2 .left)))
+          (λ w. rw (w .3, w .4, w .5) (head-live (word r) (board r) (p r) (long r) g range inside (sym entry ∙ w .0 .taken) (sym (w .1 .ensures) ∙ not-false _ (w .2 .left))))
           (λ w. rw (w .1, w .2, w .3) (head-passed (word r) (board r) (p r) (long r) g range inside (λ z. w .0 .left (entry ∙ z)))))
           (c .if1 .came),
     )
+
+sub-live : tie.Need-sub-live Inv-loop μ-loop
+sub-live c = search needs
 
 returns : tie.Need-returns Inv-loop μ-loop
 unfolding rowOpen rowEnded Periods.row
@@ -136,10 +139,11 @@ returns c =
     let g = c .before .loop .inv .1 in
     let e : c .before .loop .h ≡ Periods.heads (length (word r)) (p r) = omega (arith, has r) in
     let row : c .before .loop .board ≡ rowEnded (word r) (p r) (board r) =
-    g .ended ∙ ap (λ (k : ℕ). boardOf (below (entryAdded (word r)) (p r) k (board r))) e
-    ∙ all-below (entryAdded (word r)) (p r) (board r) (long r) (length (word r)) (out-of-range-kept (word r)) in (
+    g .gone ∙ ap (λ (k : ℕ). boardOf (below (entryAdded (word r)) (p r) k (board r))) e
+    ∙ all-below (entryAdded (word r)) (p r) (board r) (long r) (length (word r)) (out-of-range-kept (word r)) in
+    let left : c .before .loop .tried - c .before .loop .ended ≡ length (openBelow (rowEnded (word r) (p r) (board r)) (p r) (c .before .loop .h)) = omega (arith, g .left-open) in (
       g .counted ∙ ap (λ (k : ℕ). length (openBelow (board r) (p r) k)) e,
-      (g .left-open ∙ ap₂ (λ (b : List ℕ) (k : ℕ). length (openBelow b (p r) k)) (sym row) e, row),
+      (left ∙ ap₂ (λ (b : List ℕ) (k : ℕ). length (openBelow b (p r) k)) (sym row) e, row),
     )
 
 pub end-row-spec : {M : Type 1} → statement M
@@ -155,10 +159,11 @@ end-row-spec =
     element-copy-out-if1
     add-tried
     holds-requires
-    add-live
     cast-board
     element-write-board
+    add-ended
     add-h
     loop-less
     loop-again
+    sub-live
     returns)
