@@ -9,7 +9,7 @@ use abelian::Listed;
 use abelian::Needed;
 use abelian::Outcome;
 use abelian::Refusal;
-use board::count_open;
+use board::ending::Trials;
 use board::ending::end_pairs;
 use board::write_open;
 use candidates::number_of_periods;
@@ -20,18 +20,22 @@ use words::check_word;
 use words::count_prefixes;
 ghost use mathlib.Core.Path.{_≡_};
 ghost use Prim.Native.Nat.{_≤_};
+ghost use lib.ListN.{length};
 ghost use Rattle.abelian.specs.Words.{longest};
 ghost use Rattle.abelian.specs.Answers.{answeredListed, answeredNeeded};
 ghost use Rattle.abelian.specs.Calls.{plainListing, skippingListing, periodCount};
+ghost use Rattle.abelian.specs.Trackers.{openPairs};
 ghost use Rattle.listers.specs.OpenListing.{openListing};
 
-// Lists the open pairs of a board that are in range for n. Counted before the first word is written, so that a refusal leaves the slice
-// as it came.
-fn list_open(board: &[u8; BOARD], n: usize, trials: usize, out: &mut [u32]) -> Listed
+// Lists the open pairs of a board that are in range for n. The trials have counted them, so that it is known before the first word is written
+// whether they fit, and a refusal leaves the slice as it came.
+fn list_open(board: &[u8; BOARD], n: usize, found: Trials, out: &mut [u32]) -> Listed
     requires { ⌜ n ≤ longest ⌝ }
-    ensures { λ r. ⌜ answeredListed r (now (out .exit)) ≡ openListing n (now (board .entry)) trials (now (out .entry)) ⌝ }
+    requires { ⌜ found .live ≡ length (openPairs n (now board)) ⌝ }
+    ensures { λ r. ⌜ answeredListed r (now (out .exit)) ≡ openListing n (now (board .entry)) (found .tried) (now (out .entry)) ⌝ }
 {
-    let words = count_open(board, n);
+    let words = found.live;
+    let trials = found.tried;
     if out.len() < words {
         return Listed::Refused(Refusal::SliceTooShort(words));
     }
@@ -51,7 +55,7 @@ pub fn list_plain(word: &[u8], out: &mut [u32]) -> Listed
     count_prefixes(word, &mut counts);
     let mut board = [0u8; BOARD];
     let trials = end_pairs(word, &counts, &mut board);
-    list_open(&board, word.len(), trials.tried, out)
+    list_open(&board, word.len(), trials, out)
 }
 
 // Lists all Abelian periods of the word, and tries only the pairs that document 004's two bounds leave.
@@ -76,8 +80,8 @@ pub fn count_plain(word: &[u8]) -> Needed
     let mut counts = [[0u8; WIDTH]; ROWS];
     count_prefixes(word, &mut counts);
     let mut board = [0u8; BOARD];
-    end_pairs(word, &counts, &mut board);
-    Needed::Words(count_open(&board, word.len()))
+    let trials = end_pairs(word, &counts, &mut board);
+    Needed::Words(trials.live)
 }
 
 // How many words the skipping lister writes, found as it finds them.

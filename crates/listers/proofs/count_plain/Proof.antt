@@ -45,16 +45,12 @@ end-pairs-requires c κs =
     let told = c .before .before .before .before in
     (record { all = may told .0; short = may told .1; rows = c .before .before .count-prefixes .ensures }, refl)
 
-count-open-requires : tie.Need-count-open-requires
-count-open-requires c κs = let told = c .before .before .before .before .before .before in may told .1
-
 returns-2 : tie.Need-returns-2
 unfolding periodCount zeros boardSize
 returns-2 c =
-    let ended = c .before .before in
-    let told = ended .before .before .before .before .before in
+    let told = c .before .before .before .before .before in
     accepted-count (word told) (told .before .before .check-word .ensures) (told .enum-told .given .1) _
-    (c .count-open .ensures ∙ open-count (word told) _ (ap (openPairs (length (word told))) (ended .end-pairs .ensures .1 .1) ∙ ended-periods (word told) (may told .1)))
+    (c .end-pairs .ensures .1 .0 ∙ open-count (word told) _ (ap (openPairs (length (word told))) (c .end-pairs .ensures .1 .1) ∙ ended-periods (word told) (may told .1)))
 
 pub count-plain-spec : {M : Type 1} → statement M
 count-plain-spec =
@@ -66,5 +62,4 @@ count-plain-spec =
     enum-told
     count-prefixes-requires
     end-pairs-requires
-    count-open-requires
     returns-2)

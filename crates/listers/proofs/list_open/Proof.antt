@@ -1,4 +1,4 @@
--- `listers::list_open` meets its contract: the open pairs are counted, and written where they fit. Assumes nothing.
+-- `listers::list_open` meets its contract: the open pairs are written where they fit. Assumes nothing.
 use mathlib.Core.Path.{_≡_, sym, ap, ap₂, _∙_}
 use mathlib.Core.List.{map}
 use Prim.Native.Nat.{ℕ}
@@ -14,16 +14,13 @@ use borrow.Author.Needs.{needs}
 use Rattle.listers.proofs.list_open.Statement.{statement}
 use Rattle.listers.proofs.list_open.Tie as tie
 
-count-open-requires : tie.Need-count-open-requires
-count-open-requires c κs = search needs
-
 returns : tie.Need-returns
 unfolding openListing wordsListed
 returns c =
-    let start = c .before .before .before in
+    let start = c .before .before in
     let opened = openPairs (start .args .n) (start .args .board .now) in
     let out = start .args .out .now in
-    let counted : c .before .count-open .result ≡ length (map periodWord opened) = c .before .count-open .ensures ∙ sym (length-map opened periodWord) in
+    let counted : start .args .found .live ≡ length (map periodWord opened) = start .pre .1 ∙ sym (length-map opened periodWord) in
     rw (lt-ltb (length out) (length (map periodWord opened)) (omega (arith, counted, c .if1 .taken))) (ap (λ (k : ℕ). refusing (SliceTooShort k) out) counted)
 
 write-open-requires : tie.Need-write-open-requires
@@ -36,13 +33,13 @@ returns-2 : tie.Need-returns-2
 unfolding openListing wordsListed
 returns-2 c =
     let e = c .before .before .before .before in
-    let start = e .before .before .before in
+    let start = e .before .before in
     let opened = openPairs (start .args .n) (start .args .board .now) in
     let out = start .args .out .now in
-    let counted : e .before .count-open .result ≡ length (map periodWord opened) = e .before .count-open .ensures ∙ sym (length-map opened periodWord) in
+    let counted : start .args .found .live ≡ length (map periodWord opened) = start .pre .1 ∙ sym (length-map opened periodWord) in
     rw (le-ltb (length out) (length (map periodWord opened)) (omega (arith, counted, e .if1 .left)))
-    (ap₂ (λ k l. writing k (start .args .trials) 0 0 l) counted (c .before .before .write-open .ensures))
+    (ap₂ (λ k l. writing k (start .args .found .tried) 0 0 l) counted (c .before .before .write-open .ensures))
 
 pub list-open-spec : {M : Type 1} → statement M
 list-open-spec =
-    tie.close (tie.spec count-open-requires returns write-open-requires same-length returns-2)
+    tie.close (tie.spec returns write-open-requires same-length returns-2)

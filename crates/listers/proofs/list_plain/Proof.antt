@@ -56,7 +56,7 @@ end-pairs-requires c κs =
     (record { all = accepted-letters (word a) (accepted a); short = accepted-length (word a) (accepted a); rows = c .before .before .count-prefixes .ensures }, refl)
 
 list-open-requires : tie.Need-list-open-requires
-list-open-requires c κs = let a = c .before .before .before .before .before .before .before in accepted-length (word a) (accepted a)
+list-open-requires c κs = let a = c .before .before .before .before .before .before .before in (accepted-length (word a) (accepted a), c .before .before .end-pairs .ensures .1 .0)
 
 same-length : tie.Need-same-length
 same-length c = search needs

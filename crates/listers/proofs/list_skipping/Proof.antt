@@ -49,7 +49,7 @@ unfolding boardSize
 try-candidates-requires c κs = let e = c .before in (accepted-letters (word e) (accepted e), (accepted-length (word e) (accepted e), refl))
 
 list-open-requires : tie.Need-list-open-requires
-list-open-requires c κs = let e = c .before .before .before .before in accepted-length (word e) (accepted e)
+list-open-requires c κs = let e = c .before .before .before .before in (accepted-length (word e) (accepted e), c .before .before .try-candidates .ensures .1 .0)
 
 same-length : tie.Need-same-length
 same-length c = search needs
@@ -61,7 +61,7 @@ returns-2 c =
     let n = l .before .before .before in
     let e = n .before .before in
     l .list-open .ensures
-    ∙ skipping-listed (word e) (start e .args .out .now) _ _ (accepted e) (n .try-candidates .ensures .1) (n .try-candidates .ensures .0)
+    ∙ skipping-listed (word e) (start e .args .out .now) _ _ (accepted e) (n .try-candidates .ensures .1 .1) (n .try-candidates .ensures .0)
 
 pub list-skipping-spec : {M : Type 1} → statement M
 list-skipping-spec =

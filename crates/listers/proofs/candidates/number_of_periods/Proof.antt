@@ -12,17 +12,13 @@ try-candidates-requires : tie.Need-try-candidates-requires
 unfolding boardSize
 try-candidates-requires c κs = search needs
 
-count-open-requires : tie.Need-count-open-requires
-count-open-requires c κs = search needs
-
 returns : tie.Need-returns
 unfolding zeros boardSize
 returns c =
-    let tried = c .before .before in
-    let start = tried .before .before .before in
+    let start = c .before .before .before in
     let word = start .args .word .now in
-    c .count-open .ensures
-    ∙ open-count word _ (ap (openPairs (length word)) (tried .try-candidates .ensures .1) ∙ tried-periods word (start .pre .0) (start .pre .1))
+    c .try-candidates .ensures .1 .0
+    ∙ open-count word _ (ap (openPairs (length word)) (c .try-candidates .ensures .1 .1) ∙ tried-periods word (start .pre .0) (start .pre .1))
 
 pub number-of-periods-spec : {M : Type 1} → statement M
-number-of-periods-spec = tie.close (tie.spec try-candidates-requires count-open-requires returns)
+number-of-periods-spec = tie.close (tie.spec try-candidates-requires returns)

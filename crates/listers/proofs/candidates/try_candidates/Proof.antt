@@ -38,7 +38,7 @@ returns c =
     let word = start .args .word .now in
     let passed : over .pass-over .last .1 .1 .0 ≡ othersPassed word (start .args .board .now) =
     over .pass-over .ensures ∙ ap (λ (lowest : List ℕ). allPassed (length word) lowest (start .args .board .now)) (found .lowest-periods .ensures) in
-    (c .end-pairs .ensures .0 ∙ ap (λ (b : List ℕ). length (openPairs (length word) b)) passed, c .end-pairs .ensures .1 .1 ∙ ap (allEnded word) passed)
+    (c .end-pairs .ensures .0 ∙ ap (λ (b : List ℕ). length (openPairs (length word) b)) passed, (c .end-pairs .ensures .1 .0, c .end-pairs .ensures .1 .1 ∙ ap (allEnded word) passed))
 
 pub try-candidates-spec : {M : Type 1} → statement M
 try-candidates-spec =
