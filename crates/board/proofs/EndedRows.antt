@@ -146,14 +146,14 @@ open-below board p h e = openBelow-more board p h ∙ ap (λ (b : Bool). length 
 pub ended-below : (board : List ℕ) (p h : ℕ) → entryAt board (pair h p) ≢ 0 → length (openBelow board p (suc h)) ≡ length (openBelow board p h) + 0
 ended-below board p h n = openBelow-more board p h ∙ ap (λ (b : Bool). length (openBelow board p h) + one b) (ne-eqb (entryAt board (pair h p)) 0 n)
 
--- the entry of a pair of the row, after the row has been gone through
+-- the entry of a pair that has been made anew, and that of a pair of the row after the row has been gone through
+entry-made : (f : Pair → ℕ → ℕ) (board : List ℕ) (x : Pair) → length board ≡ boardSize → T (inRange longest x) → entryAt (entries f (pairs longest) board) x ≡ f x (entryAt board x)
+entry-made f board x long i = ap (λ (b : List ℕ). entryAt b x) (entries-of f board long) ∙ boardOf-at (λ (y : Pair). f y (entryAt board y)) x i
+
 row-entry : (w board : List ℕ) (h p : ℕ) → length board ≡ boardSize → T (inRange longest (pair h p))
     → entryAt (rowEnded w p board) (pair h p) ≡ entryAdded w (pair h p) (entryAt board (pair h p))
 unfolding rowEnded entryInRow
-row-entry w board h p long i =
-    ap (λ (b : List ℕ). entryAt b (pair h p)) (entries-of (entryInRow (entryAdded w) p) board long)
-    ∙ boardOf-at (λ (x : Pair). entryInRow (entryAdded w) p x (entryAt board x)) (pair h p) i
-    ∙ rw (eq-eqb p p refl)
+row-entry w board h p long i = entry-made (entryInRow (entryAdded w) p) board (pair h p) long i ∙ rw (eq-eqb p p refl)
 
 -- the row of p has been gone through up to the head h: how many pairs were tried, how many of them have ended, and what is left
 pub record RowGone (w old : List ℕ) (p : ℕ) (board : List ℕ) (tried ended h : ℕ) : Type 0 where
@@ -224,6 +224,17 @@ module _ (w old : List ℕ) (p : ℕ) (long : length old ≡ boardSize) where
 
 -- ---- a board, row by row
 
+-- the open pairs of a row are known by the row's entries
+row-agree : (g : Pair → ℕ) (board : List ℕ) (n p : ℕ) → 1 ≤ p → n ≤ longest → ((x : Pair) → T (inRange longest x) → x .period ≡ p → g x ≡ entryAt board x)
+    → rowOpen n (boardOf g) p ≡ keep (isOpen board) (row n p)
+unfolding rowOpen
+row-agree g board n p l u h =
+    keep-agree (isOpen (boardOf g)) (isOpen board) (row n p)
+    (λ x m.
+    let r : InRange n x × (x .period ≡ p) = mem-row n p l m in
+    let i : T (inRange longest x) = range-in longest x (in-range-longer (r .0) u) in
+    ap (λ (k : ℕ). eqb k 0) (boardOf-at g x i ∙ h x i (r .1)))
+
 -- the rows up to m gone through
 abbrev pub upTo : (Pair → ℕ → ℕ) → ℕ → List ℕ → Pair → ℕ
 upTo f m board x = pick (leb (x .period) m) (f x (entryAt board x)) (entryAt board x)
@@ -255,30 +266,16 @@ module _ (f : Pair → ℕ → ℕ) (board : List ℕ) (long : length board ≡ 
           (decided (eqb (x .period) (suc m)))
 
   -- a row that has not been gone through yet is open as it was
-  pub row-untouched : (m n : ℕ) → n ≤ longest → rowOpen n (boardOf (upTo f m board)) (suc m) ≡ keep (isOpen board) (row n (suc m))
-  unfolding rowOpen
+  row-untouched : (m n : ℕ) → n ≤ longest → rowOpen n (boardOf (upTo f m board)) (suc m) ≡ keep (isOpen board) (row n (suc m))
   row-untouched m n u =
-      keep-agree (isOpen (boardOf (upTo f m board))) (isOpen board) (row n (suc m))
-      (λ x i.
-      let r : InRange n x × (x .period ≡ suc m) = mem-row n (suc m) (omega arith) i in
-      let t : T (inRange longest x) = range-in longest x (in-range-longer (r .0) u) in
-      let later : leb (x .period) m ≡ false = lt-leb (x .period) m (omega (arith, r .1)) in
-      let e : upTo f m board x ≡ entryAt board x = rw later in
-      ap (λ (k : ℕ). eqb k 0) (boardOf-at (upTo f m board) x t ∙ e))
+      row-agree (upTo f m board) board n (suc m) (omega arith) u
+      (λ x i e. let later : leb (x .period) m ≡ false = lt-leb (x .period) m (omega (arith, e)) in rw later)
 
   -- and one that has just been gone through is open as it will be
-  pub row-gone : (m n : ℕ) → n ≤ longest → rowOpen n (boardOf (upTo f (suc m) board)) (suc m) ≡ keep (isOpen (entries f (pairs longest) board)) (row n (suc m))
-  unfolding rowOpen
+  row-gone : (m n : ℕ) → n ≤ longest → rowOpen n (boardOf (upTo f (suc m) board)) (suc m) ≡ keep (isOpen (entries f (pairs longest) board)) (row n (suc m))
   row-gone m n u =
-      keep-agree (isOpen (boardOf (upTo f (suc m) board))) (isOpen (entries f (pairs longest) board)) (row n (suc m))
-      (λ x i.
-      let r : InRange n x × (x .period ≡ suc m) = mem-row n (suc m) (omega arith) i in
-      let t : T (inRange longest x) = range-in longest x (in-range-longer (r .0) u) in
-      let gone : leb (x .period) (suc m) ≡ true = le-leb (x .period) (suc m) (omega (arith, r .1)) in
-      let e : upTo f (suc m) board x ≡ f x (entryAt board x) = rw gone in
-      ap (λ (k : ℕ). eqb k 0)
-      (boardOf-at (upTo f (suc m) board) x t ∙ e
-      ∙ sym (ap (λ (b : List ℕ). entryAt b x) (entries-of f board long) ∙ boardOf-at (λ (y : Pair). f y (entryAt board y)) x t)))
+      row-agree (upTo f (suc m) board) (entries f (pairs longest) board) n (suc m) (omega arith) u
+      (λ x i e. let gone : leb (x .period) (suc m) ≡ true = le-leb (x .period) (suc m) (omega (arith, e)) in rw gone (sym (entry-made f board x long i)))
 
   -- all rows, where f keeps what is not in range for n
   pub all-upTo : (n : ℕ) → ((x : Pair) (e : ℕ) → inRange n x ≡ false → f x e ≡ e) → boardOf (upTo f n board) ≡ entries f (pairs longest) board
