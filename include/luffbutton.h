@@ -363,12 +363,13 @@ struct luff_cover luff_find_cover(const uint8_t *word, size_t n);
 /*
  * A tracker: a word that grows and shrinks at its end. bytes holds the letters and 0 beyond the length. board has an entry for each pair
  * in range for LUFF_LONGEST, by p and then h: the ended length of the pair. live and ended are totals for a screen: how many pairs in range
- * for the length have the entry 0, which are as many as a list writes, and how many have another. Their sum is the number of pairs in range,
- * (n + 1) / 2 times (n + 2) / 2, both rounded down. It takes 14,784 bytes. Make one by luff_tracker_fresh or luff_tracker_replay and change
- * it by its calls alone, given below.
+ * for the length have the entry 0, which are as many as a list writes, and how many have another. With n for the length, their sum is the
+ * number of pairs in range, (n + 1) / 2 times (n + 2) / 2, both rounded down. A tracker takes 14,784 bytes. Make one by luff_tracker_fresh or
+ * luff_tracker_replay and change it by its calls alone, given below.
  *
- * Each add, take-back and clear that is accepted sets live and ended from the board that it leaves, whatever stood there. No call reads them:
- * no answer depends on them, and a tracker is not damaged by them. A call that is refused, a list and a count leave them as they are.
+ * A fresh tracker has 0 and 0. Each accepted add, take-back and clear, also one of a luff_tracker_replay, sets live and ended from the board
+ * that it leaves, whatever stood there. No call reads them: no answer depends on them, and a tracker is not damaged by them. An add and a
+ * take-back that are refused, a list and a count leave them as they are.
  *
  * A copy of it is a tracker too. But what is kept for long or sent elsewhere should be the letters (bytes, as many as length says), and the
  * tracker be made from them by luff_tracker_replay: a call checks length and letters and not the board, so that a byte of the board that

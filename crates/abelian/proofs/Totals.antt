@@ -37,7 +37,7 @@ pub fresh-zero : freshTracker ≡ record { len = 0; bytes = replicate longest 0;
 unfolding freshTracker totals
 fresh-zero = rw (none-open (replicate boardSize 0), none-ended (replicate boardSize 0))
 
--- "live is the length of the list"
+-- "live is the length of the list", on every board: a theorem by itself, which no proof uses
 pub live-listed : (n : ℕ) (board : List ℕ) → totals n board .live ≡ length (openWords n board)
 unfolding totals
 live-listed n board = sym (length-map (openPairs n board) periodWord)

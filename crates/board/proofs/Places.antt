@@ -178,9 +178,9 @@ pairsWhere-in-range f n board l long =
     ∙ keep-in-range n (λ (x : Pair). f (entryAt board x)) l
 
 -- each pair in range is live or has ended
-pub all-told : (n : ℕ) (board : List ℕ) → n ≤ longest → length board ≡ boardSize → length (openPairs n board) + length (endedPairs n board) ≡ length (pairs n)
+pub open-and-ended : (n : ℕ) (board : List ℕ) → n ≤ longest → length board ≡ boardSize → length (openPairs n board) + length (endedPairs n board) ≡ length (pairs n)
 unfolding openPairs endedPairs
-all-told n board l long =
+open-and-ended n board l long =
     ap₂ (λ (live ended : List Pair). length live + length ended) (pairsWhere-in-range (λ (e : ℕ). eqb e 0) n board l long) (pairsWhere-in-range (λ (e : ℕ). not (eqb e 0)) n board l long)
     ∙ keep-or-not (λ (x : Pair). eqb (entryAt board x) 0) (pairs n)
 

@@ -19,7 +19,7 @@ use Rattle.abelian.specs.Output.{periodWord}
 use Rattle.abelian.specs.Trackers.{boardSize, openPairs}
 use Rattle.abelian.proofs.Tests.{is-true}
 use Rattle.abelian.proofs.Lists.{all-mem, upFrom-mem, upFrom-append, keep-append, each-append, each-last}
-use Rattle.board.specs.Places.{rowStart, placeOf, entryAt, isOpen}
+use Rattle.board.specs.Places.{rowStart, placeOf, isOpen}
 use Rattle.board.specs.Rows.{rowWords}
 use Rattle.board.proofs.Places.{next-row, pairsWhere-in-range}
 
@@ -140,7 +140,7 @@ openUpTo-all n board l e = sym (pairsWhere-in-range (λ (i : ℕ). eqb i 0) n bo
 
 -- ---- the rows lie on the board
 
--- half of the rows, and two, times as many
+-- a product of two numbers up to 122, half of the longest length and two, fits a machine word
 pub product-fits : (a b : ℕ) → a ≤ 122 → b ≤ 122 → Fits w64 (a * b)
 product-fits a b l m = omega (arith, mul-le-mul l m)
 

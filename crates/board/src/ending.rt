@@ -21,8 +21,8 @@ pub struct Trials {
     pub live: usize,
 }
 
-// Ends the pairs of one period, and returns how many were tried and how many of them are live. Those that end are counted, and not the live ones,
-// since most open pairs of a tracker are live.
+// Ends the pairs of one period, and returns how many were tried and how many of them are live. Those that end are counted, and the live ones are
+// the rest: few pairs of a tracker end at a letter, and to count the others took longer.
 fn end_row(
     word: &[u8],
     counts: &[[u8; WIDTH]; ROWS],

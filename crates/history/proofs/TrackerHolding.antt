@@ -1,9 +1,9 @@
 -- Laws of the tracker of a word: it is fresh for the empty word, it is not damaged, add, take-back and list find in it what the machine has in
 -- its letters, and its totals are those of the word's pairs.
 use mathlib.Core.Path.{_≡_, refl, sym, ap, ap₂, _∙_}
-use mathlib.Core.Bool.{false, not}
+use mathlib.Core.Bool.{false}
 use mathlib.Core.List.{List, [], _∷_, _++_, map-map}
-use Prim.Native.Nat.{ℕ, zero, suc, _+_, _-_, _*_, _/_, _≤_, _<_}
+use Prim.Native.Nat.{ℕ, suc, _+_, _-_, _*_, _/_, _≤_, _<_}
 use native.Mathlib.Omega.{arith}
 use lib.ListN.{length, take, set, replicate, length-append, length-map}
 use lib.Seq.{take-append-seam, take-at, set-at, append-snoc}
@@ -21,19 +21,19 @@ use Rattle.abelian.proofs.Lists.{keep-agree}
 use Rattle.abelian.proofs.Pairs.{InRange, in-range, pairs-in-range}
 use Rattle.periods.proofs.EndedLengths.{open-is-period, out-of-range-open, ended-added, ended-shortened}
 use Rattle.periods.proofs.PairCount.{pair-count}
-use Rattle.board.proofs.Places.{length-boardOf, boardOf-agree, entries-boardOf, all-told}
+use Rattle.board.proofs.Places.{length-boardOf, boardOf-agree, entries-boardOf, open-and-ended}
 use Rattle.listers.proofs.Listings.{zeros, zeros-board, open-of-entries}
 use Rattle.history.specs.TrackerHolding.{trackerHolding}
 
 -- a tracker whose totals are those of its board is known by its length, bytes and board
-known : {n m : ℕ} {u v a b : List ℕ} → n ≡ m → u ≡ v → a ≡ b → withTotals n u a ≡ withTotals m v b
-known e f g = cc
+withTotals-equal : {n m : ℕ} {u v a b : List ℕ} → n ≡ m → u ≡ v → a ≡ b → withTotals n u a ≡ withTotals m v b
+withTotals-equal e f g = cc
 
 -- the fresh tracker is that of the empty word
 pub fresh-empty : freshTracker ≡ trackerHolding []
 unfolding freshTracker trackerHolding zeros longest boardSize
 fresh-empty =
-    known refl refl
+    withTotals-equal refl refl
     (zeros-board ∙ boardOf-agree (λ (x : Pair). 0) (endedLength [])
     (λ x t. let r : InRange longest x = in-range longest x t in sym (out-of-range-open [] x (omega (arith, r .positive)))))
 
@@ -64,7 +64,7 @@ module _ (w : List ℕ) (b : ℕ) (l : length w < longest) where
   pub added-word : added (trackerHolding w) b ≡ trackerHolding W
   unfolding added trackerHolding
   added-word =
-      known (sym length-W) stored
+      withTotals-equal (sym length-W) stored
       (ap (λ (v : List ℕ). entries (entryAdded v) (pairs longest) (boardOf (endedLength w)))
       (ap (take (suc (length w))) stored ∙ take-at W (replicate (longest - length W) 0) (suc (length w)) length-W)
       ∙ entries-boardOf (entryAdded W) (endedLength w)
@@ -76,7 +76,7 @@ module _ (w : List ℕ) (b : ℕ) (l : length w < longest) where
   shortened-word =
       let e : length W - 1 ≡ length w = omega (arith, length-W) in
       let reopen : ℕ → ℕ = λ (e : ℕ). pick (eqb e (length W)) 0 e in
-      known e
+      withTotals-equal e
       (ap₂ (λ v k. set v k 0) (append-snoc w b (replicate (longest - length W) 0)) e
       ∙ set-at w b (replicate (longest - length W) 0) 0 (length w) refl
       ∙ ap (λ (r : List ℕ). w ++ r) (sym room))
@@ -99,7 +99,7 @@ open-periods w t l =
 -- live and ended are together the pairs in range for the word
 pub live-and-ended : (w : List ℕ) → length w ≤ longest → trackerHolding w .live + trackerHolding w .ended ≡ (length w + 1) / 2 * ((length w + 2) / 2)
 unfolding trackerHolding totals
-live-and-ended w l = all-told (length w) (boardOf (endedLength w)) l (length-boardOf (endedLength w)) ∙ pair-count (length w)
+live-and-ended w l = open-and-ended (length w) (boardOf (endedLength w)) l (length-boardOf (endedLength w)) ∙ pair-count (length w)
 
 -- and live is the number of its Abelian periods
 pub live-periods : (w : List ℕ) → T (ofLetters w) → length w ≤ longest → trackerHolding w .live ≡ length (periodWords w)

@@ -17,7 +17,7 @@ use Rattle.abelian.specs.declared.Refusal.{Refusal}
 use Rattle.abelian.specs.declared.Refusal.the-variants.{NotALetter, SliceTooShort, TrackerFull, TrackerEmpty, TrackerDamaged}
 use Rattle.abelian.specs.declared.Tracker.{Tracker}
 use Rattle.board.specs.Ending.{allEnded}
-use Rattle.board.proofs.Places.{all-told}
+use Rattle.board.proofs.Places.{open-and-ended}
 use Rattle.tracker.specs.Fields.{ofFields}
 use Rattle.tracker.specs.Steps.{entryReopened}
 
@@ -35,15 +35,16 @@ listed t words out = record { tracker = t; answer = writing words 0 0 0 out }
 
 -- ---- totals
 
--- the live pairs of a board are counted, and the others in range have ended
+-- no more pairs are live than are in range
 pub live-within : (n : ℕ) (board : List ℕ) {live all : ℕ} → n ≤ longest → length board ≡ boardSize → live ≡ length (openPairs n board) → all ≡ length (pairs n) → live ≤ all
-live-within n board short long e f = omega (arith, all-told n board short long)
+live-within n board short long e f = omega (arith, open-and-ended n board short long)
 
-pub totalled : (n : ℕ) (bytes board : List ℕ) {live all : ℕ} → n ≤ longest → length board ≡ boardSize → live ≡ length (openPairs n board) → all ≡ length (pairs n)
+-- fields with live counted, and ended as the other pairs in range, are the tracker with the totals of its board
+pub fields-with-totals : (n : ℕ) (bytes board : List ℕ) {live all : ℕ} → n ≤ longest → length board ≡ boardSize → live ≡ length (openPairs n board) → all ≡ length (pairs n)
     → ofFields n bytes board live (all - live) ≡ withTotals n bytes board
 unfolding totals
-totalled n bytes board {live} {all} short long e f =
-    let g : all - live ≡ length (endedPairs n board) = omega (arith, all-told n board short long) in
+fields-with-totals n bytes board {live} {all} short long e f =
+    let g : all - live ≡ length (endedPairs n board) = omega (arith, open-and-ended n board short long) in
     rw (g, e)
 
 -- ---- add

@@ -1,6 +1,6 @@
 // The tracker's calls in place. Each works on the fields of a tracker that the caller lends, the length, the bytes, the board and the two totals,
-// and answers; what the fields then hold and the answer are those of document 01's step. A refused call stores nothing. The contracts hold of every
-// tracker, also of one that no calls have made. No call reads the totals, and a list and a count are not lent them.
+// and answers; what the fields then hold and the answer are those of document 01's step, with the totals of C-19. A refused call stores nothing.
+// The contracts hold of every tracker, also of one that no calls have made. No call reads the totals, and a list and a count are not lent them.
 use crate::letters::is_damaged;
 use crate::letters::remove_last;
 use crate::letters::store_letter;

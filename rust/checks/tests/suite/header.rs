@@ -230,7 +230,7 @@ fn trackers() {
     assert_eq!(offset_of!(Fields, live), totals);
     assert_eq!(offset_of!(Fields, ended), totals + bytes);
     assert_eq!(size_of::<Fields>(), totals + 2 * bytes);
-    assert!(HEADER.contains(" It takes 14,784 bytes."));
+    assert!(HEADER.contains(" A tracker takes 14,784 bytes."));
     assert_eq!(size_of::<Fields>(), 14784);
 }
 

@@ -270,18 +270,19 @@ fn totals_are_not_read() {
     assert!(kept >= 800, "{kept} calls kept the totals");
 }
 
-/// On a board of one value each accepted call leaves as many live or ended pairs as are in range, at every length: of zeros all are live after a
-/// take-back, and of entries that no length has all have ended.
+/// On a board of one value each accepted call leaves as many live or ended pairs as are in range, at every length: of zeros, or of the old length,
+/// all are live after a take-back, and of entries that no length has all have ended, after an add too.
 #[test]
 fn totals_of_boards_of_one_value() {
     let mut generator = seeded(71);
-    for n in 1..=LONGEST {
+    for n in 0..=LONGEST {
         let mut tracker = Fields::zero();
         tracker.length = n;
         let letters = generator.uniform(n, LETTERS);
         tracker.bytes[..n].copy_from_slice(&letters);
         any_totals(&mut tracker, &mut generator);
-        for (entry, live) in [(0, true), (n as u8, true), (255, false)] {
+        let boards = [(0, true), (n as u8, true), (255, false)];
+        for (entry, live) in boards.into_iter().filter(|_| n > 0) {
             let mut shorter = tracker.clone();
             shorter.board.fill(entry);
             assert_eq!(Library.take_back(&mut shorter), Answer::default());

@@ -29,7 +29,7 @@ end-row-requires c κs =
     let start = c .before .before .before .before in
     (start .pre .0, (ap length (g .ended) ∙ length-boardOf _, (g .from, c .before .loop-test .taken)))
 
--- no row has more open pairs than heads, before and afterwards
+-- after a row: the word, the period and their bounds
 module _ (c : tie.After-end-row Inv-loop μ-loop) where
   abbrev at-loop : tie.At-loop Inv-loop μ-loop
   at-loop = c .before .before .before
@@ -49,6 +49,7 @@ module _ (c : tie.After-end-row Inv-loop μ-loop) where
   short : length w ≤ longest
   short = start .pre .0 .short
 
+  -- no row has more open pairs than heads, before and afterwards
   few-tried : c .end-row .result .tried ≤ longest
   few-tried = omega (arith, c .end-row .ensures .0, few-in-row w (at-loop .loop .board) p taken short)
 

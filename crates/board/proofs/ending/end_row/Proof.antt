@@ -1,12 +1,11 @@
 -- `board::ending::end_row` meets its contract. The invariant of its loop: the row has been gone through up to the head h. The measure is what is
 -- left of the row. Assumes nothing.
-use mathlib.Core.Path.{_≡_, refl, sym, ap, ap₂, _∙_}
+use mathlib.Core.Path.{_≡_, sym, ap, ap₂, _∙_}
 use mathlib.Core.Logic.{⊎-elim}
 use mathlib.Core.List.{List}
-use Prim.Native.Nat.{ℕ, suc, _+_, _-_, _≤_, _<_}
-use native.Mathlib.Numerals.{add-one}
+use Prim.Native.Nat.{ℕ, _+_, _-_, _≤_, _<_}
 use native.Mathlib.Omega.{arith}
-use lib.ListN.{length, getD, set}
+use lib.ListN.{length, getD}
 use lib.Dec.{T}
 use borrow.Author.Tests.{not-true, not-false}
 use Rattle.abelian.specs.Words.{longest}
@@ -14,7 +13,6 @@ use Rattle.abelian.specs.Periods.{pair, inRange}
 use Rattle.abelian.specs.Periods
 use Rattle.abelian.specs.EndedLengths.{boardOf}
 use Rattle.abelian.specs.Trackers.{boardSize, entryAdded}
-use Rattle.abelian.proofs.Tests.{is-true}
 use Rattle.abelian.proofs.Pairs.{InRange, range-in, in-range-longer, heads-in-range}
 use Rattle.board.specs.Places.{placeOf, rowStart, entryAt}
 use Rattle.board.specs.Ending.{rowOpen, rowEnded}

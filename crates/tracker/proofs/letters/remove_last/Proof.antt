@@ -9,7 +9,7 @@ use Rattle.abelian.specs.Trackers.{boardSize, openPairs}
 use Rattle.abelian.specs.declared.Tracker.{Tracker}
 use Rattle.tracker.specs.Fields.{ofFields}
 use Rattle.tracker.specs.Steps.{entryReopened}
-use Rattle.tracker.proofs.Steps.{live-within, totalled, letter-gone}
+use Rattle.tracker.proofs.Steps.{live-within, fields-with-totals, letter-gone}
 use borrow.Author.Needs.{needs}
 use Rattle.tracker.proofs.letters.remove_last.Statement.{statement}
 use Rattle.tracker.proofs.letters.remove_last.Tie as tie
@@ -76,7 +76,7 @@ returns : tie.Need-returns
 returns c =
     let e = c .before in
     ap (λ (b : List ℕ). ofFields (n e) (bytes e) b (e .count-open .result) (c .pairs-in-range .result - e .count-open .result)) (reopened e .reopen .ensures)
-    ∙ totalled (n e) (bytes e) (board e) (within e) (long e) (live e) (c .pairs-in-range .ensures)
+    ∙ fields-with-totals (n e) (bytes e) (board e) (within e) (long e) (live e) (c .pairs-in-range .ensures)
     ∙ letter-gone (old e)
 
 pub remove-last-spec : {M : Type 1} → statement M

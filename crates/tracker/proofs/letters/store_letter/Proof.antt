@@ -13,7 +13,7 @@ use Rattle.board.specs.Ending.{allEnded}
 use Rattle.board.proofs.EndedRows.{length-ended}
 use Rattle.tracker.specs.Fields.{ofFields}
 use Rattle.tracker.proofs.Damage.{undamaged, letters-stored}
-use Rattle.tracker.proofs.Steps.{live-within, totalled, letter-added}
+use Rattle.tracker.proofs.Steps.{live-within, fields-with-totals, letter-added}
 use borrow.Author.Needs.{needs}
 use Rattle.tracker.proofs.letters.store_letter.Statement.{statement}
 use Rattle.tracker.proofs.letters.store_letter.Tie as tie
@@ -104,7 +104,7 @@ returns : tie.Need-returns
 returns c =
     let e = c .before .before in
     ap (λ (b : List ℕ). ofFields (n e) (bytes (held e)) b (e .end-pairs .result .live) (c .before .pairs-in-range .result - e .end-pairs .result .live)) (e .end-pairs .ensures .1 .1)
-    ∙ totalled (n e) (bytes (held e)) (board e) (within e) (long e) (live e) (c .before .pairs-in-range .ensures)
+    ∙ fields-with-totals (n e) (bytes (held e)) (board e) (within e) (long e) (live e) (c .before .pairs-in-range .ensures)
     ∙ letter-added (old (held e)) (letter (held e))
 
 pub store-letter-spec : {M : Type 1} → statement M

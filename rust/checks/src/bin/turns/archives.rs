@@ -41,7 +41,8 @@ macro_rules! archives {
 type Bytes = [u8; LONGEST];
 type Board = [u8; BOARD];
 
-/// The add of an archive from before request C-19.
+/// The add of an archive from before request C-19: the letter stands where live does now. The other calls of such an archive read the arguments that
+/// they know, which come first.
 type AddWithoutTotals = unsafe extern "C" fn(*mut usize, *mut Bytes, *mut Board, u8) -> Outcome;
 
 archives! {
