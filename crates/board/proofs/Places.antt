@@ -188,6 +188,10 @@ open-and-ended n board l long =
 pub entries-of : (f : Pair → ℕ → ℕ) (board : List ℕ) → length board ≡ boardSize → entries f (pairs longest) board ≡ boardOf (λ (x : Pair). f x (entryAt board x))
 entries-of f board e = ap (entries f (pairs longest)) (board-of-entries board e) ∙ entries-boardOf f (entryAt board)
 
+-- the entry of a pair that has been made anew
+pub entry-made : (f : Pair → ℕ → ℕ) (board : List ℕ) (x : Pair) → length board ≡ boardSize → T (inRange longest x) → entryAt (entries f (pairs longest) board) x ≡ f x (entryAt board x)
+entry-made f board x long i = ap (λ (b : List ℕ). entryAt b x) (entries-of f board long) ∙ boardOf-at (λ (y : Pair). f y (entryAt board y)) x i
+
 -- pairs at one place are one pair
 pub place-injective : (x y : Pair) → T (inRange longest x) → T (inRange longest y) → placeOf x ≡ placeOf y → x ≡ y
 place-injective x y s t e =

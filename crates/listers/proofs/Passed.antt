@@ -14,7 +14,7 @@ use Rattle.abelian.specs.Trackers.{boardSize, entries}
 use Rattle.abelian.proofs.Tests.{is-true}
 use Rattle.board.specs.Ending.{entryInRow}
 use Rattle.board.proofs.Places.{entries-of, length-boardOf}
-use Rattle.board.proofs.EndedRows.{upTo, next-upTo}
+use Rattle.board.proofs.EndedBoards.{upTo, next-upTo}
 use Rattle.listers.specs.Passing.{passedBelow, entryPassed, rowPassed, allPassed}
 
 module _ (n : ℕ) (lowest : List ℕ) (x : Pair) (e : ℕ) where

@@ -10,7 +10,8 @@ use Rattle.abelian.specs.Trackers.{entryAdded, openPairs}
 use Rattle.board.specs.Ending.{rowOpen, rowEnded, allEnded}
 use Rattle.board.proofs.Places.{length-boardOf}
 use Rattle.board.proofs.Rows.{openUpTo, openUpTo-all}
-use Rattle.board.proofs.EndedRows.{out-of-range-kept, upTo, all-upTo, length-ended, Gone, none-gone, next-gone, few-in-row}
+use Rattle.board.proofs.EndedRows.{out-of-range-kept}
+use Rattle.board.proofs.EndedBoards.{upTo, all-upTo, length-ended, Gone, none-gone, next-gone, few-in-row}
 use Rattle.board.proofs.ending.end_pairs.Statement.{statement}
 use Rattle.board.proofs.ending.end_pairs.Tie as tie
 

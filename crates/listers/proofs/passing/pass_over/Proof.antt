@@ -7,7 +7,7 @@ use lib.ListN.{length}
 use Rattle.abelian.specs.Words.{longest}
 use Rattle.abelian.specs.EndedLengths.{boardOf}
 use Rattle.board.proofs.Places.{length-boardOf}
-use Rattle.board.proofs.EndedRows.{upTo, none-upTo, all-upTo}
+use Rattle.board.proofs.EndedBoards.{upTo, none-upTo, all-upTo}
 use Rattle.listers.specs.Passing.{entryPassed, allPassed}
 use Rattle.listers.proofs.Passed.{out-of-range-kept, next-passed}
 use Rattle.listers.proofs.passing.pass_over.Statement.{statement}

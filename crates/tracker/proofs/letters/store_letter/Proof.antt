@@ -10,7 +10,7 @@ use Rattle.abelian.specs.Words.{longest, ofLetters}
 use Rattle.abelian.specs.Trackers.{boardSize, openPairs}
 use Rattle.abelian.specs.declared.Tracker.{Tracker}
 use Rattle.board.specs.Ending.{allEnded}
-use Rattle.board.proofs.EndedRows.{length-ended}
+use Rattle.board.proofs.EndedBoards.{length-ended}
 use Rattle.tracker.specs.Fields.{ofFields}
 use Rattle.tracker.proofs.Damage.{undamaged, letters-stored}
 use Rattle.tracker.proofs.Steps.{live-within, fields-with-totals, letter-added}
