@@ -18,7 +18,7 @@ use Rattle.abelian.specs.Periods.{Pair, in_range, pairs, head_of, block, whole_b
 use Rattle.abelian.proofs.Tests.{both, left, right}
 use Rattle.abelian.proofs.Lists.{same_equal, equal_same, mem-keep, keep-mem, all-mem, mem-all, mem-up_from, up_from-mem, ordered_keep}
 use Rattle.abelian.proofs.Counts.{letters_left, letters_right, vector-length, contained_shorter}
-use Rattle.abelian.proofs.Pairs.{InRange, in-range, range_in, in_range-pairs, pairs_rising}
+use Rattle.abelian.proofs.Pairs.{InRange, in_range_lem, range_in, in_range-pairs, pairs_rising}
 
 -- ---- the test's four conditions
 
@@ -54,7 +54,7 @@ module _ (w : List ℕ) (x : Pair) where
       let rha : T (r && h && a) = left (r && h && a) t p in
       let rh : T (r && h) = left (r && h) a rha in
       record {
-        range = in-range (length w) x (left r h rh);
+        range = in_range_lem (length w) x (left r h rh);
         head_contained = right r h rh;
         alike = λ k l u.
             same_equal (vector (block w x k)) (vector (block w x 1))
@@ -106,9 +106,9 @@ module _ (w : List ℕ) (x : Pair) (r : InRange (length w) x) where
   unfolding block
   block-length = simp (length-take, length-drop) (omega (arith, r.fits))
 
-  pub head_length : length (head_of w x) ≡ x.head
+  pub head_length_lem : length (head_of w x) ≡ x.head
   unfolding head_of
-  head_length = length-take-le x.head w (omega (arith, r.fits))
+  head_length_lem = length-take-le x.head w (omega (arith, r.fits))
 
   pub some_block : (k : ℕ) × (whole_blocks (length w) x ≡ suc k)
   unfolding whole_blocks
@@ -134,7 +134,7 @@ period_definition w x p =
           ap vector (sym r.2) ∙ c.alike r.0 (omega arith) (omega (arith, b.1));
       head_contained = c.head_contained;
       tail_contained = c.tail_contained;
-      head_length = head_length w x c.range;
+      head_length = head_length_lem w x c.range;
       period_length = block-length w x c.range;
     }
 

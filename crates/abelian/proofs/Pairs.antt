@@ -20,9 +20,9 @@ pub record InRange (n : ℕ) (x : Pair) : Type 0 where
   pub below : x.head < x.period
   pub fits : x.head + x.period ≤ n
 
-pub in-range : (n : ℕ) (x : Pair) → T (in_range n x) → InRange n x
+pub in_range_lem : (n : ℕ) (x : Pair) → T (in_range n x) → InRange n x
 unfolding in_range
-in-range n x t =
+in_range_lem n x t =
     let p : Bool = leb 1 x.period in
     let h : Bool = ltb x.head x.period in
     let f : Bool = leb (x.head + x.period) n in
@@ -72,7 +72,7 @@ pairs-in_range n x m =
 pub in_range-pairs : (n : ℕ) (x : Pair) → T (in_range n x) → Memᴰ x (pairs n)
 unfolding pairs row heads
 in_range-pairs n x t =
-    let r : InRange n x = in-range n x t in
+    let r : InRange n x = in_range_lem n x t in
     each-mem (row n) (up_from 1 n) (up_from-mem 1 n x.period r.positive (omega arith))
     (Memᴰ.map (λ (h : ℕ). pair h x.period) (up_from-mem 0 (heads n x.period) x.head (omega arith) (omega arith)))
 

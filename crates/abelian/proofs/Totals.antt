@@ -10,7 +10,7 @@ use Rattle.abelian.specs.Periods.{Pair, in_range, pairs}
 use Rattle.abelian.specs.Output.{period_word}
 use Rattle.abelian.specs.Trackers.{board_size, pairs_where, open_pairs, ended_pairs, totals, fresh_tracker, open_words}
 use Rattle.abelian.proofs.Tests.{is_false}
-use Rattle.abelian.proofs.Pairs.{InRange, in-range}
+use Rattle.abelian.proofs.Pairs.{InRange, in_range_lem}
 
 -- where no pair passes the test there are none
 pairs_where-none : (f : Pair → ℕ → Bool) → ((x : Pair) (e : ℕ) → f x e ≡ false) → (xs : List Pair) (es : List ℕ) → pairs_where f xs es ≡ []
@@ -21,7 +21,7 @@ pairs_where-none f h (x ∷ xs) (e ∷ es) = rw (h x e) (pairs_where-none f h xs
 
 -- no pair is in range for 0
 none-in_range : (x : Pair) → in_range 0 x ≡ false
-none-in_range x = is_false (in_range 0 x) (λ t. let r : InRange 0 x = in-range 0 x t in omega (arith, r.positive, r.fits))
+none-in_range x = is_false (in_range 0 x) (λ t. let r : InRange 0 x = in_range_lem 0 x t in omega (arith, r.positive, r.fits))
 
 module _ (board : List ℕ) where
   none_open : open_pairs 0 board ≡ []
@@ -38,6 +38,6 @@ unfolding fresh_tracker totals
 fresh_zero = rw (none_open (replicate board_size 0), none_ended (replicate board_size 0))
 
 -- "live is the length of the list", on every board: a theorem by itself, which no proof uses
-pub live_listed : (n : ℕ) (board : List ℕ) → (totals n board).live ≡ length (open_words n board)
+pub live_listed_lem : (n : ℕ) (board : List ℕ) → (totals n board).live ≡ length (open_words n board)
 unfolding totals
-live_listed n board = sym (length-map (open_pairs n board) period_word)
+live_listed_lem n board = sym (length-map (open_pairs n board) period_word)

@@ -15,7 +15,7 @@ use Rattle.abelian.specs.EndedLengths.{board_of}
 use Rattle.abelian.specs.Trackers.{board_size, entries, entry_added}
 use Rattle.abelian.proofs.Tests.{is_false, decided}
 use Rattle.abelian.proofs.Lists.{keep_agree, keep_shorter}
-use Rattle.abelian.proofs.Pairs.{InRange, in-range, range_in, in_range_longer, mem-row}
+use Rattle.abelian.proofs.Pairs.{InRange, in_range_lem, range_in, in_range_longer, mem-row}
 use Rattle.periods.proofs.PairCount.{length-row}
 use Rattle.board.specs.Places.{entry_at, is_open}
 use Rattle.board.specs.Ending.{entry_in_row, row_ended, row_open, all_ended}
@@ -41,7 +41,7 @@ module _ (f : Pair → ℕ → ℕ) (board : List ℕ) (long : length board ≡ 
   pub none_up_to : board ≡ board_of (up_to f 0 board)
   none_up_to =
       board_of-entries board long
-      ∙ board_of_agree (entry_at board) (up_to f 0 board) (λ x s. let r : InRange longest x = in-range longest x s in rw (lt-leb x.period 0 r.positive))
+      ∙ board_of_agree (entry_at board) (up_to f 0 board) (λ x s. let r : InRange longest x = in_range_lem longest x s in rw (lt-leb x.period 0 r.positive))
 
   -- one row more
   pub next_up_to : (m : ℕ) → entries (entry_in_row f (suc m)) (pairs longest) (board_of (up_to f m board)) ≡ board_of (up_to f (suc m) board)
@@ -85,7 +85,7 @@ module _ (f : Pair → ℕ → ℕ) (board : List ℕ) (long : length board ≡ 
           ⊎_elim (λ (l : leb x.period n ≡ true). rw l)
           (λ (l : leb x.period n ≡ false).
           rw l (sym (kept x (entry_at board x)
-          (is_false (in_range n x) (λ t. let r : InRange n x = in-range n x t in let k : n < x.period = leb-false x.period n l in omega (arith, r.fits))))))
+          (is_false (in_range n x) (λ t. let r : InRange n x = in_range_lem n x t in let k : n < x.period = leb-false x.period n l in omega (arith, r.fits))))))
           (decided (leb x.period n))
 
 -- a board has as many entries after all rows

@@ -17,7 +17,7 @@ use Rattle.abelian.specs.EndedLengths.{board_of}
 use Rattle.abelian.specs.Trackers.{board_size, entries, entry_added}
 use Rattle.abelian.proofs.Tests.{is_true, is_false, decided}
 use Rattle.abelian.proofs.Lists.{keep_append, up_from_last}
-use Rattle.abelian.proofs.Pairs.{InRange, in-range, range_in}
+use Rattle.abelian.proofs.Pairs.{InRange, in_range_lem, range_in}
 use Rattle.board.specs.Places.{place_of, entry_at, is_open}
 use Rattle.board.specs.Ending.{entry_in_row, row_ended}
 use Rattle.board.proofs.Places.{board_of_at, board_of_agree, board_of-entries, entries_of, entry_made, set-board_of, place_injective}
@@ -50,7 +50,7 @@ below f p h board x = pick (eqb x.period p && ltb x.head h) (f x (entry_at board
 -- a head behind the row's last is out of range
 beyond-heads : (n p : ℕ) (x : Pair) → x.period ≡ p → heads n p ≤ x.head → in_range n x ≡ false
 unfolding heads
-beyond-heads n p x e l = is_false (in_range n x) (λ t. let r : InRange n x = in-range n x t in omega (arith, r.below, r.fits))
+beyond-heads n p x e l = is_false (in_range n x) (λ t. let r : InRange n x = in_range_lem n x t in omega (arith, r.below, r.fits))
 
 module _ (f : Pair → ℕ → ℕ) (p : ℕ) (board : List ℕ) (long : length board ≡ board_size) where
   pub none_below : board ≡ board_of (below f p 0 board)
@@ -138,8 +138,8 @@ open_below_more board p h =
     length-put false = refl
 
 -- one head more whose pair is open is one trial more, and one that has ended is none
-pub open_below : (board : List ℕ) (p h : ℕ) → entry_at board (pair h p) ≡ 0 → length (open_below board p (suc h)) ≡ length (open_below board p h) + 1
-open_below board p h e = open_below_more board p h ∙ ap (λ (b : Bool). length (open_below board p h) + one b) (eq-eqb (entry_at board (pair h p)) 0 e)
+pub open_below_lem : (board : List ℕ) (p h : ℕ) → entry_at board (pair h p) ≡ 0 → length (open_below board p (suc h)) ≡ length (open_below board p h) + 1
+open_below_lem board p h e = open_below_more board p h ∙ ap (λ (b : Bool). length (open_below board p h) + one b) (eq-eqb (entry_at board (pair h p)) 0 e)
 
 pub ended_below : (board : List ℕ) (p h : ℕ) → entry_at board (pair h p) ≢ 0 → length (open_below board p (suc h)) ≡ length (open_below board p h) + 0
 ended_below board p h n = open_below_more board p h ∙ ap (λ (b : Bool). length (open_below board p h) + one b) (ne_eqb (entry_at board (pair h p)) 0 n)
@@ -199,8 +199,8 @@ module _ (w old : List ℕ) (p : ℕ) (long : length old ≡ board_size) where
         rw (add-one h)
         (record {
           few = omega (arith, g.few);
-          counted = omega (arith, g.counted, open_below old p h z);
-          left_open = omega (arith, g.left_open, open_below (row_ended w p old) p h (row_entry w old h p long i ∙ k ∙ z));
+          counted = omega (arith, g.counted, open_below_lem old p h z);
+          left_open = omega (arith, g.left_open, open_below_lem (row_ended w p old) p h (row_entry w old h p long i ∙ k ∙ z));
           gone = kept k;
         })
 
@@ -212,7 +212,7 @@ module _ (w old : List ℕ) (p : ℕ) (long : length old ≡ board_size) where
         rw (add-one h)
         (record {
           few = omega (arith, g.few);
-          counted = omega (arith, g.counted, open_below old p h z);
+          counted = omega (arith, g.counted, open_below_lem old p h z);
           left_open = omega (arith, g.left_open, ended_below (row_ended w p old) p h n);
           gone = ap₂ (λ b v. set b (place_of x) v) g.gone (sym k) ∙ next_below (entry_added w) p old long h i;
         })

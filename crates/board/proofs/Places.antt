@@ -18,7 +18,7 @@ use Rattle.abelian.specs.EndedLengths.{board_of}
 use Rattle.abelian.specs.Trackers.{board_size, entries, pairs_where, open_pairs, ended_pairs}
 use Rattle.abelian.proofs.Tests.{is_true, both, left, right, decided}
 use Rattle.abelian.proofs.Lists.{all-mem, up_from-mem, mem-keep, keep-mem, up_from-append, ordered_keep, keep_or_not}
-use Rattle.abelian.proofs.Pairs.{InRange, in-range, range_in, in_range_longer, pairs-in_range, in_range-pairs, pairs_rising, rising_equal}
+use Rattle.abelian.proofs.Pairs.{InRange, in_range_lem, range_in, in_range_longer, pairs-in_range, in_range-pairs, pairs_rising, rising_equal}
 use Rattle.periods.proofs.PairCount.{length-row, pair-count}
 use Rattle.board.specs.Places.{row_start, place_of, entry_at}
 
@@ -166,7 +166,7 @@ keep-in_range n f l =
     keep-mem f (pairs n) (in_range-pairs n z (left (in_range n z) (f z) p)) (right (in_range n z) (f z) p))
     (λ z m.
     let i : T (in_range n z) = pairs-in_range n z (mem-keep f (pairs n) m).0 in
-    let r : InRange n z = in-range n z i in
+    let r : InRange n z = in_range_lem n z i in
     let w : T (in_range longest z) = range_in longest z (in_range_longer r l) in
     keep-mem t (pairs longest) (in_range-pairs longest z w) (both (in_range n z) (f z) i (mem-keep f (pairs n) m).1))
 

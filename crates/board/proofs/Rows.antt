@@ -77,16 +77,16 @@ heads_words board p a (suc m) l =
     go true q = ap (λ (ws : List ℕ). period_word (pair a p) ∷ ws) q
     go false q = q
 
-pub row_words : (board : List ℕ) (n p : ℕ) → row_start p + heads n p ≤ length board → row_words p 0 (part board (row_start p) (heads n p)) ≡ map period_word (keep (is_open board) (row n p))
+pub row_words_lem : (board : List ℕ) (n p : ℕ) → row_start p + heads n p ≤ length board → row_words p 0 (part board (row_start p) (heads n p)) ≡ map period_word (keep (is_open board) (row n p))
 unfolding row
-row_words board n p l =
+row_words_lem board n p l =
     let e : row_start p + 0 ≡ row_start p = omega arith in
     rw e at (heads_words board p 0 (heads n p) (omega arith))
 
 -- a row has as many open pairs as entries that are 0
 row_count : (board : List ℕ) (n p : ℕ) → row_start p + heads n p ≤ length board → length (keep (is_open board) (row n p)) ≡ count 0 (part board (row_start p) (heads n p))
 row_count board n p l =
-    sym (length-map (keep (is_open board) (row n p)) period_word) ∙ ap length (sym (row_words board n p l)) ∙ length-row_words p 0 (part board (row_start p) (heads n p))
+    sym (length-map (keep (is_open board) (row n p)) period_word) ∙ ap length (sym (row_words_lem board n p l)) ∙ length-row_words p 0 (part board (row_start p) (heads n p))
 
 -- the open pairs with the periods 1 to m
 abbrev pub open_up_to : ℕ → List ℕ → ℕ → List Pair
@@ -119,7 +119,7 @@ row-stored n board old out at p l u a o =
     let words : map period_word (open_up_to n board p) ≡ map period_word before ++ map period_word opened =
     ap (map period_word) (open_up_to_more n board p l) ∙ map-append period_word before opened in
     let placed : at ≡ 0 + length (map period_word before) = omega (arith, a, length-map before period_word) in
-    rw (row_words board n p u, placed, o, words) (sym (sets_append old 0 (map period_word before) (map period_word opened)))
+    rw (row_words_lem board n p u, placed, o, words) (sym (sets_append old 0 (map period_word before) (map period_word opened)))
 
 -- more rows have no fewer open pairs
 pub open_up_to_rises : (n : ℕ) (board : List ℕ) {m k : ℕ} → m ≤ k → length (open_up_to n board m) ≤ length (open_up_to n board k)

@@ -167,8 +167,8 @@ outer_length w t i j p q a b e =
     ends_length w i.to (omega (arith, p.ordered)) below (rw k at s)
 
 -- a word that has a cover, of however many intervals, has a cover length
-pub cover-length : (w : List ℕ) → T (of_letters w) → (is : List Interval) → Cover w is → (m : ℕ) × CoverLength w m
-cover-length w t is c =
+pub cover_length_lem : (w : List ℕ) → T (of_letters w) → (is : List Interval) → Cover w is → (m : ℕ) × CoverLength w m
+cover_length_lem w t is c =
     let a : (i : Interval) × Memᴰ i is × Holds i 1 = c.holding 1 (omega arith) (omega (arith, c.long)) in
     let b : (i : Interval) × Memᴰ i is × Holds i (length w) = c.holding (length w) (omega (arith, c.long)) (omega arith) in
     outer_length w t a.0 b.0 (c.proper a.0 a.1) (c.proper b.0 b.1) a.2 b.2 (c.equal a.0 b.0 a.1 b.1)
@@ -182,7 +182,7 @@ module _ (w : List ℕ) where
 
   -- where the cover length is 0 no intervals are a cover
   pub zero_no_cover : T (of_letters w) → cover_length w ≡ 0 → (is : List Interval) → Cover w is → ⊥
-  zero_no_cover t e is c = let k : (m : ℕ) × CoverLength w m = cover-length w t is c in cover_length-none w e k.0 k.1
+  zero_no_cover t e is c = let k : (m : ℕ) × CoverLength w m = cover_length_lem w t is c in cover_length-none w e k.0 k.1
 
   -- where no intervals are a cover the cover length is 0
   pub no_cover_zero : ((is : List Interval) → Cover w is → ⊥) → cover_length w ≡ 0

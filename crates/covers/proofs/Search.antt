@@ -49,13 +49,13 @@ module _ (w : List ℕ) (t : T (of_letters w)) where
 
     -- the front's letter is counted
     module _ {first' : List ℕ} {differ' : ℕ} (f : first' ≡ one_more first (get_or w left 0)) (d : differ' ≡ differing (one_more first (get_or w left 0)) last) where
-      first_vector : first' ≡ vector (take (left + 1) w)
-      first_vector = f ∙ vector_first_more w t left (omega (arith, h.parts)) h.firsts
+      first_vector_lem : first' ≡ vector (take (left + 1) w)
+      first_vector_lem = f ∙ vector_first_more w t left (omega (arith, h.parts)) h.firsts
 
       -- the next letter from the end can be counted
       pub can_count_last : CanCount last first' (get_or w (right - 1) 0) differ'
       can_count_last =
-          can_count (right - 1) (drop right w) (take (left + 1) w) (omega (arith, h.parts)) (omega (arith, h.parts, length-drop right w)) h.lasts first_vector
+          can_count (right - 1) (drop right w) (take (left + 1) w) (omega (arith, h.parts)) (omega (arith, h.parts, length-drop right w)) h.lasts first_vector_lem
           (d ∙ differing_equal (sym f) refl ∙ differing_sym first' last)
 
       -- both letters are counted
@@ -71,10 +71,10 @@ module _ (w : List ℕ) (t : T (of_letters w)) where
             record {
               parts = omega (arith, h.parts);
               order = omega arith;
-              firsts = first_vector;
+              firsts = first_vector_lem;
               lasts = last_vector;
               differs = both_differ;
-              smallest = q ∙ sym (smallest_next w left right differ'' h.parts between (both_differ ∙ differing_equal first_vector last_vector));
+              smallest = q ∙ sym (smallest_next w left right differ'' h.parts between (both_differ ∙ differing_equal first_vector_lem last_vector));
             }
 
         -- no letter differs: the length that is left is a cover length, and the smallest so far

@@ -15,7 +15,7 @@ use Rattle.abelian.specs.Covers.{cover_length}
 use Rattle.abelian.specs.Calls.{period_words, full_words, report_words}
 use Rattle.abelian.proofs.Lists.{mem-keep, mem-up_from, each_append}
 use Rattle.abelian.proofs.Output.{kind_read, upper_read, lower_read}
-use Rattle.abelian.proofs.Pairs.{InRange, in-range, pairs-in_range}
+use Rattle.abelian.proofs.Pairs.{InRange, in_range_lem, pairs-in_range}
 use Rattle.report.proofs.Heads.{lower_fits, head_lower}
 use Rattle.cycles.specs.Lines.{length_line, full_line, period_line, square_line, accepted_lines}
 use Rattle.cycles.specs.Reports.{kind_line, line_of, text_of}
@@ -53,7 +53,7 @@ module _ (w : List ℕ) (short : length w ≤ longest) where
   unfolding longest period_words period_word periods kind_line
   period_lines =
       each_map line_of period_word period_line (periods w)
-      (λ x m. let r : InRange (length w) x = in-range (length w) x (pairs-in_range (length w) x (mem-keep (is_period w) (pairs (length w)) m).0) in
+      (λ x m. let r : InRange (length w) x = in_range_lem (length w) x (pairs-in_range (length w) x (mem-keep (is_period w) (pairs (length w)) m).0) in
       line_read 1 x.period x.head (omega arith) (omega arith))
 
   square_lines : each (square_words w) line_of ≡ each (up_from 1 (length w)) (λ (q : ℕ). each (square_starts w q) (square_line q))

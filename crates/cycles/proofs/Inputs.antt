@@ -17,9 +17,9 @@ use Rattle.cycles.specs.Lines.{word_in, refusal_line, printed}
 use Rattle.cycles.proofs.Printing.{printed_refused}
 
 -- a word has all bytes of its input but one, or all
-word-length : (input : List ℕ) → length input ≤ length (word_in input) + 1
+word_length_lem : (input : List ℕ) → length input ≤ length (word_in input) + 1
 unfolding word_in
-word-length input = go (eqb (get_or input (length input - 1) 0) 10)
+word_length_lem input = go (eqb (get_or input (length input - 1) 0) 10)
   where
     go : (b : Bool) → length input ≤ length (pick b (take (length input - 1) input) input) + 1
     go true = omega (arith, length-take (length input - 1) input)
@@ -27,7 +27,7 @@ word-length input = go (eqb (get_or input (length input - 1) 0) 10)
 
 -- an input with two bytes more than the longest word is refused
 long_input : (input : List ℕ) → longest + 2 ≤ length input → printed (word_in input) ≡ refusal_line TooLong
-long_input input h = printed_refused (word_in input) (word_refused (word_in input) (long_refused (word_in input) false 0 0 (omega (arith, word-length input))))
+long_input input h = printed_refused (word_in input) (word_refused (word_in input) (long_refused (word_in input) false 0 0 (omega (arith, word_length_lem input))))
 
 -- What stands behind the first bytes, two more than the longest word has, changes nothing.
 pub first_bytes_decide : (input : List ℕ) → printed (word_in (take (longest + 2) input)) ≡ printed (word_in input)

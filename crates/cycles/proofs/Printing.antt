@@ -13,7 +13,7 @@ use Rattle.abelian.specs.declared.Refusal.{Refusal}
 use Rattle.abelian.specs.declared.Wrote.TheVariants.{Words, Refused}
 use Rattle.abelian.proofs.Refusals.{refusal_number}
 use Rattle.report.proofs.Refusals.{reported_length, report_refused, report_written}
-use Rattle.report.proofs.Lengths.{report_places}
+use Rattle.report.proofs.Lengths.{report_places_lem}
 use Rattle.words.proofs.Lists.{length-fill, take-fill}
 use Rattle.cycles.specs.Text.{ascii, line}
 use Rattle.cycles.specs.Lines.{refusal_line, lines_unless, printed}
@@ -31,7 +31,7 @@ pub record Reported (w after : List ℕ) (n : ℕ) : Type 0 where
 module _ (w : List ℕ) where
   -- the report of an accepted word has few words
   few_words : report_refusal w 0 0 ≡ none → length (report_words w) ≤ report_places
-  few_words accepted = report_places w (reported_length w accepted)
+  few_words accepted = report_places_lem w (reported_length w accepted)
 
   printed_accepted : report_refusal w 0 0 ≡ none → printed w ≡ text_of (report_words w)
   unfolding printed lines_unless

@@ -35,12 +35,12 @@ next_multiple p n d i l =
     omega (arith, suc-mul i p)
 
 -- the blocks of a divisor have all letters
-whole_blocks : (p n : ℕ) → whole_blocks n (pair 0 p) ≡ n / p
+whole_blocks_lem : (p n : ℕ) → whole_blocks n (pair 0 p) ≡ n / p
 unfolding whole_blocks
-whole_blocks p n = let z : n - 0 ≡ n = omega arith in ap (λ (k : ℕ). k / p) z
+whole_blocks_lem p n = let z : n - 0 ≡ n = omega arith in ap (λ (k : ℕ). k / p) z
 
 pub whole_all : (p n : ℕ) → p ∣ n → whole_blocks n (pair 0 p) * p ≡ n
-whole_all p n d = ap (λ (k : ℕ). k * p) (whole_blocks p n) ∙ div-mul_cancel p d
+whole_all p n d = ap (λ (k : ℕ). k * p) (whole_blocks_lem p n) ∙ div-mul_cancel p d
 
 module _ (w : List ℕ) (p : ℕ) where
   -- block number i + 1 begins after i * p letters
@@ -90,7 +90,7 @@ module _ (w : List ℕ) (p : ℕ) where
   full_alike t i l =
       let c : Conditions w (pair 0 p) = full_conditions t in
       let s : suc i ≤ length w / p = (le-div_iff_mul-le c.range.positive).1 (omega (arith, suc-mul i p, next_multiple p (length w) (full_divides t) i l)) in
-      ap vector (sym (block-part i)) ∙ c.alike (suc i) (omega arith) (omega (arith, whole_blocks p (length w))) ∙ ap vector block_first
+      ap vector (sym (block-part i)) ∙ c.alike (suc i) (omega arith) (omega (arith, whole_blocks_lem p (length w))) ∙ ap vector block_first
 
   -- and where they have, a divisor of the length is an Abelian period with head 0
   alike_period : T (of_letters w) → 0 < length w → p ∣ length w → BlocksAlike → T (is_period w (pair 0 p))
@@ -116,7 +116,7 @@ module _ (w : List ℕ) (p : ℕ) where
       same : Alike w (pair 0 p)
       same zero a b = absurd (omega arith)
       same (suc i) a b =
-          let s : suc i * p ≤ length w = (le-div_iff_mul-le l).0 (omega (arith, whole_blocks p (length w))) in
+          let s : suc i * p ≤ length w = (le-div_iff_mul-le l).0 (omega (arith, whole_blocks_lem p (length w))) in
           ap vector (block-part i) ∙ alike i (omega (arith, l, suc-mul i p)) ∙ ap vector (sym block_first)
 
   -- and a smaller one a full period

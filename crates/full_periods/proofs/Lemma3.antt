@@ -142,14 +142,14 @@ module _ (w : List ℕ) (t : T (of_letters w)) where
           ap (λ (k : ℕ). count c (take k w)) e ∙ (omega (arith, suc-mul i (count c (take p w))))
 
       -- so n / p times those of the first block are the word's
-      full_count : T (is_full w p) → (c : ℕ) → Memᴰ c letters → count c w ≡ length w / p * count c (take p w)
-      full_count f c m =
+      full_count_lem : T (is_full w p) → (c : ℕ) → Memᴰ c letters → count c w ≡ length w / p * count c (take p w)
+      full_count_lem f c m =
           let e : length w / p * p ≡ length w = div-mul_cancel p (full_divides w p f) in
           ap (count c) (sym (take-length w)) ∙ ap (λ (k : ℕ). count c (take k w)) (sym e) ∙ blocks_count f (length w / p) c (omega arith) m
 
       -- Lemma 3, first step: k = n / p divides every letter's count
       pub full_divides_counts : T (is_full w p) → (c : ℕ) → Memᴰ c letters → length w / p ∣ count c w
-      full_divides_counts f c m = subst (λ (a : ℕ). length w / p ∣ a) (sym (full_count f c m)) (dvd-mul_right (length w / p) (count c (take p w)))
+      full_divides_counts f c m = subst (λ (a : ℕ). length w / p ∣ a) (sym (full_count_lem f c m)) (dvd-mul_right (length w / p) (count c (take p w)))
 
       -- Observation 1: a full period is a multiple of s, so that s is the smallest possible one
       pub observation_1 : T (is_full w p) → scale w ∣ p
@@ -182,7 +182,7 @@ module _ (w : List ℕ) (t : T (of_letters w)) where
           ∙ ap (λ (a : ℕ). a * (i * x)) (sym e ∙ mul_comm q p)
           ∙ mul-mul-mul_comm p q i x
           ∙ ap (λ (a : ℕ). a * (q * x)) (mul_comm p i)
-          ∙ ap (λ (a : ℕ). i * p * a) (sym (full_count f c m)))
+          ∙ ap (λ (a : ℕ). i * p * a) (sym (full_count_lem f c m)))
 
       -- and back: a divisor of n that is smaller and whose multiples are all scaled is a full period
       pub multiples_scaled_full : p ∣ length w → p < length w → ((i : ℕ) → i * p ≤ length w → T (is_scaled w (i * p))) → T (is_full w p)

@@ -38,9 +38,9 @@ module _ (w table : List ℕ) (short : length w ≤ longest) (e : table ≡ full
   marked_full = ap (marked (length w)) e ∙ marks-marked (is_full w) (length w) short
 
   -- so their words are those of the definition
-  pub marked-words : map (full_word (length w)) (marked (length w) table) ≡ full_words w
+  pub marked_words : map (full_word (length w)) (marked (length w) table) ≡ full_words w
   unfolding full_words
-  marked-words = ap (map (full_word (length w))) marked_full
+  marked_words = ap (map (full_word (length w))) marked_full
 
   pub marked-count : length (marked (length w) table) ≡ length (full_words w)
-  marked-count = sym (length-map (marked (length w) table) (full_word (length w))) ∙ ap length marked-words
+  marked-count = sym (length-map (marked (length w) table) (full_word (length w))) ∙ ap length marked_words

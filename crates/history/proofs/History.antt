@@ -20,7 +20,7 @@ use Rattle.abelian.specs.Calls.{writing_words, period_words, full_words, plain_l
 use Rattle.abelian.specs.Trackers.{Step, fresh_tracker}
 use Rattle.abelian.specs.declared.Tracker.{Tracker}
 use Rattle.abelian.proofs.Tests.{fails}
-use Rattle.abelian.proofs.Pairs.{InRange, in-range, range_in}
+use Rattle.abelian.proofs.Pairs.{InRange, in_range_lem, range_in}
 use Rattle.abelian.proofs.Definition1.{periods_definition, periods_rising}
 use Rattle.words.proofs.Refusals.{letters-none}
 use Rattle.words.proofs.Listings.{listing_written}
@@ -29,7 +29,7 @@ use Rattle.history.specs.Machine.{Call, machine, letters_unless}
 use Rattle.history.specs.Calls.{letters_after, machine_answers, tracker_after, tracker_answers, word_of, tracker_from}
 use Rattle.history.specs.History.{IsWord, History}
 use Rattle.history.specs.TrackerHolding.{tracker_holding}
-use Rattle.history.proofs.TrackerHolding.{fresh_empty, live_and_ended, live_periods}
+use Rattle.history.proofs.TrackerHolding.{fresh_empty, live_and_ended_lem, live_periods}
 use Rattle.history.proofs.Steps.{empty_word, moved, step-machine, machine_word}
 use Rattle.history.proofs.FullPairs.{full_pairs}
 
@@ -56,17 +56,17 @@ answers_letters w (c ∷ cs) i =
     ap (λ (s : Step). s.answer ∷ tracker_answers s.tracker cs) (step-machine w c i)
     ∙ ap (λ (l : List Answer). (machine w c).answer ∷ l) (answers_letters (machine w c).letters cs (machine_word w c i))
 
-pub word-of : (calls : List Call) → IsWord (word_of calls)
+pub word_of_lem : (calls : List Call) → IsWord (word_of calls)
 unfolding word_of
-word-of calls = letters_word [] calls empty_word
+word_of_lem calls = letters_word [] calls empty_word
 
 -- the tracker after the calls is that of the machine's word
 pub tracker_of_word : (calls : List Call) → tracker_from calls ≡ tracker_holding (word_of calls)
 unfolding tracker_from word_of
 tracker_of_word calls = ap (λ (t : Tracker). tracker_after t calls) fresh_empty ∙ after_letters [] calls empty_word
 
-pub machine_answers : (calls : List Call) → tracker_answers fresh_tracker calls ≡ machine_answers [] calls
-machine_answers calls = ap (λ (t : Tracker). tracker_answers t calls) fresh_empty ∙ answers_letters [] calls empty_word
+pub machine_answers_lem : (calls : List Call) → tracker_answers fresh_tracker calls ≡ machine_answers [] calls
+machine_answers_lem calls = ap (λ (t : Tracker). tracker_answers t calls) fresh_empty ∙ answers_letters [] calls empty_word
 
 -- ---- the claim
 
@@ -77,7 +77,7 @@ unreached w x t e = out_of_range_open w x (go (dec_lt (length w) (x.head + x.per
     go : Dec (length w < x.head + x.period) → length w < x.head + x.period
     go (yes l) = l
     go (no n) =
-        let r : InRange longest x = in-range longest x t in
+        let r : InRange longest x = in_range_lem longest x t in
         absurd (fails (in_range (length w) x) e (range_in (length w) x (record { positive = r.positive; below = r.below; fits = omega arith })))
 
 -- the machine's list, where there are places enough
@@ -89,16 +89,16 @@ pub history : (calls : List Call) → History calls
 unfolding machine tracker_holding plain_listing skipping_listing scaled_listing
 history calls =
     let w : List ℕ = word_of calls in
-    let i : IsWord w = word-of calls in
+    let i : IsWord w = word_of_lem calls in
     let t : tracker_from calls ≡ tracker_holding w = tracker_of_word calls in
     let a : word_refusal w false 0 0 ≡ none = letters-none w i.fits i.letters in
     record {
       word = i;
-      answers = machine_answers calls;
+      answers = machine_answers_lem calls;
       holds = record { len = ap (λ (s : Tracker). s.len) t; bytes = ap (λ (s : Tracker). s.bytes) t };
       ended = ap (λ (s : Tracker). s.board) t;
       unreached = unreached w;
-      live_and_ended = rw t (live_and_ended w i.fits);
+      live_and_ended = rw t (live_and_ended_lem w i.fits);
       live_listed = rw t (live_periods w i.letters i.fits);
       same = λ others e. tracker_of_word others ∙ ap tracker_holding e ∙ sym t;
       listed = λ out l. rw t (step-machine w (Call.list out) i ∙ listed_machine w out l);

@@ -25,7 +25,7 @@ use Rattle.history.specs.Calls.{letters_after, machine_answers, step, word_of}
 use Rattle.history.specs.TrackerHolding.{tracker_holding}
 use Rattle.history.specs.Replay.{call_of, refusals, Replay, replaying}
 use Rattle.history.proofs.Steps.{moved, step-machine}
-use Rattle.history.proofs.History.{word-of}
+use Rattle.history.proofs.History.{word_of_lem}
 
 -- ---- the call of a byte
 
@@ -114,7 +114,7 @@ module _ (bytes : List ℕ) where
 
     -- the step of the next byte's call is the machine's
     next_step : step t c ≡ moved (machine (word_of (calls_of bytes i)) c)
-    next_step = ap (λ (u : Tracker). step u c) r.tracker ∙ step-machine (word_of (calls_of bytes i)) c (word-of (calls_of bytes i))
+    next_step = ap (λ (u : Tracker). step u c) r.tracker ∙ step-machine (word_of (calls_of bytes i)) c (word_of_lem (calls_of bytes i))
 
     pub next_replayed : (s : Step) (n : ℕ) → s ≡ step t c → n ≡ one (ltb 0 s.answer.number) → FirstReplayed bytes (i + 1) s.tracker (k + n)
     unfolding word_of
@@ -137,6 +137,6 @@ module _ (bytes : List ℕ) where
   all_replayed i out r l s e =
       let cs : List Call = calls_of bytes i in
       let f : s ≡ moved (machine (word_of cs) (Call.list out)) =
-      e ∙ ap (λ (u : Tracker). step u (Call.list out)) r.tracker ∙ step-machine (word_of cs) (Call.list out) (word-of cs) in
+      e ∙ ap (λ (u : Tracker). step u (Call.list out)) r.tracker ∙ step-machine (word_of cs) (Call.list out) (word_of_lem cs) in
       replay_fields (ap (λ (u : Step). u.tracker) f ∙ ap tracker_holding (list_keeps (word_of cs) out)) r.counted (ap (λ (u : Step). u.answer) f)
       ∙ ap (λ (bs : List ℕ). replaying bs out) (ap (λ (m : ℕ). take m bytes) l ∙ take-length bytes)

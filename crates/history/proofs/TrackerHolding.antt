@@ -18,7 +18,7 @@ use Rattle.abelian.specs.Calls.{period_words}
 use Rattle.abelian.specs.Trackers.{board_size, totals, with_totals, fresh_tracker, damaged_bytes, damaged, entries, entry_added, added, shortened, open_pairs}
 use Rattle.abelian.proofs.Tests.{is_true}
 use Rattle.abelian.proofs.Lists.{keep_agree}
-use Rattle.abelian.proofs.Pairs.{InRange, in-range, pairs-in_range}
+use Rattle.abelian.proofs.Pairs.{InRange, in_range_lem, pairs-in_range}
 use Rattle.periods.proofs.EndedLengths.{open_is_period, out_of_range_open, ended_added, ended_shortened}
 use Rattle.periods.proofs.PairCount.{pair-count}
 use Rattle.board.proofs.Places.{length-board_of, board_of_agree, entries-board_of, open_and_ended}
@@ -35,7 +35,7 @@ unfolding fresh_tracker tracker_holding zeros longest board_size
 fresh_empty =
     with_totals_equal refl refl
     (zeros_board ∙ board_of_agree (λ (x : Pair). 0) (ended_length [])
-    (λ x t. let r : InRange longest x = in-range longest x t in sym (out_of_range_open [] x (omega (arith, r.positive)))))
+    (λ x t. let r : InRange longest x = in_range_lem longest x t in sym (out_of_range_open [] x (omega (arith, r.positive)))))
 
 -- the tracker of a word is not damaged
 pub undamaged : (w : List ℕ) → T (of_letters w) → length w ≤ longest → damaged (tracker_holding w) ≡ false
@@ -69,7 +69,7 @@ module _ (w : List ℕ) (b : ℕ) (l : length w < longest) where
       (ap (take (suc (length w))) stored ∙ take_at W (replicate (longest - length W) 0) (suc (length w)) length-W)
       ∙ entries-board_of (entry_added W) (ended_length w)
       ∙ board_of_agree (λ (x : Pair). entry_added W x (ended_length w x)) (ended_length W)
-      (λ x t. let r : InRange longest x = in-range longest x t in sym (ended_added w b x r.positive r.below)))
+      (λ x t. let r : InRange longest x = in_range_lem longest x t in sym (ended_added w b x r.positive r.below)))
 
   pub shortened_word : shortened (tracker_holding W) ≡ tracker_holding w
   unfolding shortened tracker_holding board_of
@@ -82,7 +82,7 @@ module _ (w : List ℕ) (b : ℕ) (l : length w < longest) where
       ∙ ap (λ (r : List ℕ). w ++ r) (sym room))
       (map-map reopen (ended_length W) (pairs longest)
       ∙ board_of_agree (λ (x : Pair). reopen (ended_length W x)) (ended_length w)
-      (λ x t. let r : InRange longest x = in-range longest x t in sym (ended_shortened w b x r.positive r.below)))
+      (λ x t. let r : InRange longest x = in_range_lem longest x t in sym (ended_shortened w b x r.positive r.below)))
 
 -- ---- the list
 
@@ -92,14 +92,14 @@ unfolding periods
 open_periods w t l =
     open_of_entries (length w) (ended_length w) l
     ∙ keep_agree (λ (x : Pair). eqb (ended_length w x) 0) (is_period w) (pairs (length w))
-    (λ x m. open_is_period w x (in-range (length w) x (pairs-in_range (length w) x m)) t)
+    (λ x m. open_is_period w x (in_range_lem (length w) x (pairs-in_range (length w) x m)) t)
 
 -- ---- the totals
 
 -- live and ended are together the pairs in range for the word
-pub live_and_ended : (w : List ℕ) → length w ≤ longest → (tracker_holding w).live + (tracker_holding w).ended ≡ (length w + 1) / 2 * ((length w + 2) / 2)
+pub live_and_ended_lem : (w : List ℕ) → length w ≤ longest → (tracker_holding w).live + (tracker_holding w).ended ≡ (length w + 1) / 2 * ((length w + 2) / 2)
 unfolding tracker_holding totals
-live_and_ended w l = open_and_ended (length w) (board_of (ended_length w)) l (length-board_of (ended_length w)) ∙ pair-count (length w)
+live_and_ended_lem w l = open_and_ended (length w) (board_of (ended_length w)) l (length-board_of (ended_length w)) ∙ pair-count (length w)
 
 -- and live is the number of its Abelian periods
 pub live_periods : (w : List ℕ) → T (of_letters w) → length w ≤ longest → (tracker_holding w).live ≡ length (period_words w)

@@ -19,7 +19,7 @@ use Rattle.abelian.specs.Calls.{first_failure, judging}
 use Rattle.abelian.proofs.Tests.{is_true, is_false, passes, fails, decided}
 use Rattle.abelian.proofs.Lists.{mem-keep, keep-mem, mem-up_from, up_from-mem, mem-each, each-mem}
 use Rattle.abelian.proofs.Counts.{vector_counts, counts_vector, none_above_counts, counts_none_above, contained-none_above}
-use Rattle.abelian.proofs.Pairs.{in-range, range_in}
+use Rattle.abelian.proofs.Pairs.{in_range_lem, range_in}
 use Rattle.abelian.proofs.Definition1.{Conditions, period_conditions, definition_1}
 use Rattle.words.proofs.Refusals.{letters-none}
 use Rattle.periods.proofs.Kernel.{tail_decides}
@@ -105,7 +105,7 @@ module _ (w : List ℕ) (x : Pair) where
   unbroken_period : T (of_letters w) → T (in_range (length w) x) → Unbroken → T (is_period w x)
   unbroken_period t r h =
       passes (is_period w x)
-      (tail_decides w x t (in-range (length w) x r)
+      (tail_decides w x t (in_range_lem (length w) x r)
       (is_true (none_above (vector (head_of w x)) (vector (block w x 1)))
       (counts_none_above (head_of w x) (block w x 1) (λ c m. ltb-false (count c (block w x 1)) (count c (head_of w x)) (sym (breaks_head c) ∙ h 0 c (omega arith) m))))
       (λ k l u. counts_vector (block w x k) (block w x 1) (λ c m. eqb-true (count c (block w x k)) (count c (block w x 1)) (not-false (eqb (count c (block w x k)) (count c (block w x 1))) (sym (breaks_whole k c l u) ∙ h k c (omega arith) m))))

@@ -20,7 +20,7 @@ use Rattle.abelian.specs.Calls.{listing, period_words, plain_listing, skipping_l
 use Rattle.abelian.specs.Trackers.{board_size, open_pairs, entries, entry_added}
 use Rattle.abelian.proofs.Tests.{is_true, is_false, fails, decided}
 use Rattle.abelian.proofs.Lists.{keep_agree}
-use Rattle.abelian.proofs.Pairs.{InRange, in-range, pairs-in_range}
+use Rattle.abelian.proofs.Pairs.{InRange, in_range_lem, pairs-in_range}
 use Rattle.words.proofs.Refusals.{accepted_length, accepted_letters}
 use Rattle.words.proofs.Listings.{listing_short, listing_written}
 use Rattle.board.specs.Places.{place_of, entry_at}
@@ -70,7 +70,7 @@ zeros_open n l = ap (open_pairs n) zeros_board ∙ open_of_entries n (λ (x : Pa
 -- on a board of zeros a pair in range stays open exactly where it is an Abelian period
 open_period : (w : List ℕ) (x : Pair) → T (in_range (length w) x) → eqb (entry_added w x 0) 0 ≡ is_period w x
 open_period w x t =
-    let r : InRange (length w) x = in-range (length w) x t in
+    let r : InRange (length w) x = in_range_lem (length w) x t in
     ⊎_elim (λ (p : is_period w x ≡ true). rw (period_kept w x 0 p, p))
     (λ (p : is_period w x ≡ false). rw (open_ended w x 0 refl (is_true (in_range (length w) x) t) p, p) (ne_eqb (length w) 0 (omega (arith, r.positive, r.fits))))
     (decided (is_period w x))

@@ -18,7 +18,7 @@ use Rattle.abelian.specs.Trials.{ruled_out, occurrence, greatest_gap, lowest_tri
 use Rattle.abelian.proofs.Tests.{is_true, is_false, passes, fails, decided}
 use Rattle.abelian.proofs.Lists.{mem-all, all-mem, length-up_from, below_or_not}
 use Rattle.abelian.proofs.Counts.{is_letter-mem, bounds_letter, count-take_rises}
-use Rattle.abelian.proofs.Pairs.{InRange, in-range}
+use Rattle.abelian.proofs.Pairs.{InRange, in_range_lem}
 use Rattle.words.proofs.Vectors.{letter_at, map-up_from_at}
 use Rattle.listers.specs.Lowest.{lowest_above, untried, lowest_period, lowest_periods}
 use Rattle.listers.proofs.Select.{count_here, count_elsewhere, occurrence-some, occurrence_zero, occurrence-length}
@@ -106,7 +106,7 @@ module _ (w : List ℕ) where
   pub candidate_entry : (x : Pair) → length w ≤ longest → T (in_range (length w) x) → is_candidate w x ≡ leb (get_or (lowest_periods w) x.head 0) x.period
   unfolding is_candidate lowest_period
   candidate_entry x s i =
-      let r : InRange (length w) x = in-range (length w) x i in
+      let r : InRange (length w) x = in_range_lem (length w) x i in
       let inside : 2 * x.head < length w = omega (arith, r.below, r.fits) in
       let above : leb untried x.period ≡ false = lt-leb untried x.period (omega (arith, r.fits, longest-untried)) in
       rw (lowest_at x.head (omega arith), lt-ltb (2 * x.head) (length w) inside) (go (ruled_out w x.head) above)

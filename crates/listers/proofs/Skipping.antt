@@ -56,9 +56,9 @@ module _ (w : List ℕ) (x : Pair) (c : Conditions w x) where
   not_ruled_out = allowed_head w h (λ d m. omega (arith, twice d m, count-take-le d (h + p) w))
 
   -- the position of a letter's occurrence number twice its count in the head is within head and block 1
-  occurrence_bound : (d : ℕ) → Memᴰ d letters → occurrence_bound w h d ≤ p
+  occurrence_bound_lem : (d : ℕ) → Memᴰ d letters → occurrence_bound w h d ≤ p
   unfolding occurrence_bound
-  occurrence_bound d m =
+  occurrence_bound_lem d m =
       ⊎_elim
       (λ (e : ltb 0 (count d (take h w)) ≡ true).
       let s : 0 < count d (take h w) = ltb-true 0 (count d (take h w)) e in
@@ -123,7 +123,7 @@ module _ (w : List ℕ) (x : Pair) (c : Conditions w x) where
       omega (arith, c.range.positive)
 
   lowest_bound : T (of_letters w) → lowest_tried w h ≤ p
-  lowest_bound t = lowest_least w h p c.range.below occurrence_bound (gap_bound t)
+  lowest_bound t = lowest_least w h p c.range.below occurrence_bound_lem (gap_bound t)
 
 -- a head that is ruled out rules out all longer ones
 pub ruled_out_longer : (w : List ℕ) (h k : ℕ) → h ≤ k → T (ruled_out w h) → T (ruled_out w k)

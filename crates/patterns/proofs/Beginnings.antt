@@ -14,7 +14,7 @@ use Rattle.abelian.specs.Squares.{square_words}
 use Rattle.abelian.specs.Patterns.{square_free}
 use Rattle.abelian.proofs.Lists.{below_or_not}
 use Rattle.squares.specs.Squares.{AbelianSquare}
-use Rattle.squares.proofs.Squares.{word_square, square-word}
+use Rattle.squares.proofs.Squares.{word_square, square_word_lem}
 
 -- ---- what the test says
 
@@ -32,7 +32,7 @@ empty (x ∷ l) h = absurd (h x (Memᴰ.head refl))
 pub square_free_exactly : (w : List ℕ) → T (square_free w) ↔ ((q i : ℕ) → AbelianSquare w q i → ⊥)
 unfolding square_free
 square_free_exactly w = (
-  λ t q i s. none_in (square_words w) (eqb→eq (length (square_words w)) 0 t) (square-word w s),
+  λ t q i s. none_in (square_words w) (eqb→eq (length (square_words w)) 0 t) (square_word_lem w s),
   λ h. empty (square_words w) (λ x m. let r : (q : ℕ) × (i : ℕ) × AbelianSquare w q i × (square_word q i ≡ x) = word_square w m in h r.0 r.1 r.2),
 )
 
@@ -51,11 +51,11 @@ module _ (u v : List ℕ) where
 
   module _ (q i : ℕ) where
     -- the vectors of a square's halves, in a beginning in which it lies
-    first_half : 1 ≤ i → i + 2 * q - 1 ≤ length u → vector (part (u ++ v) (i - 1) q) ≡ vector (part u (i - 1) q)
-    first_half l h = ap vector (part_beginning (i - 1) q (omega arith))
+    first_half_lem : 1 ≤ i → i + 2 * q - 1 ≤ length u → vector (part (u ++ v) (i - 1) q) ≡ vector (part u (i - 1) q)
+    first_half_lem l h = ap vector (part_beginning (i - 1) q (omega arith))
 
-    second_half : 1 ≤ i → i + 2 * q - 1 ≤ length u → vector (part (u ++ v) (i - 1 + q) q) ≡ vector (part u (i - 1 + q) q)
-    second_half l h = ap vector (part_beginning (i - 1 + q) q (omega arith))
+    second_half_lem : 1 ≤ i → i + 2 * q - 1 ≤ length u → vector (part (u ++ v) (i - 1 + q) q) ≡ vector (part u (i - 1 + q) q)
+    second_half_lem l h = ap vector (part_beginning (i - 1 + q) q (omega arith))
 
     -- a square of a beginning is one of the word
     pub square_later : AbelianSquare u q i → AbelianSquare (u ++ v) q i
@@ -64,13 +64,13 @@ module _ (u v : List ℕ) where
           half = s.half;
           start = s.start;
           within = omega (arith, s.within, length-append u v);
-          alike = first_half s.start s.within ∙ s.alike ∙ sym (second_half s.start s.within);
+          alike = first_half_lem s.start s.within ∙ s.alike ∙ sym (second_half_lem s.start s.within);
         }
 
     -- a square of the word that lies in a beginning is one of the beginning
     pub square_before : i + 2 * q - 1 ≤ length u → AbelianSquare (u ++ v) q i → AbelianSquare u q i
     square_before h s =
-        record { half = s.half; start = s.start; within = h; alike = sym (first_half s.start h) ∙ s.alike ∙ second_half s.start h }
+        record { half = s.half; start = s.start; within = h; alike = sym (first_half_lem s.start h) ∙ s.alike ∙ second_half_lem s.start h }
 
   -- a beginning of a square-free word is square-free
   pub beginning_free : T (square_free (u ++ v)) → T (square_free u)

@@ -145,12 +145,12 @@ module _ {left number at : ℕ} (n : Numbered left number at) where
       → Numbered next (number * k + c) to
   unfolding largest_alphabet
   numbered_more k c next to totals few l e p =
-      let one_more : longest_square_free - next ≡ suc (longest_square_free - left) = omega (arith, n.within) in
+      let one_more_lem : longest_square_free - next ≡ suc (longest_square_free - left) = omega (arith, n.within) in
       let s : left ≡ suc next = omega arith in
       let room : at + 4 ^ next * 4 ≤ 4 ^ longest_square_free = rw (s, pow-suc 4 next) at n.places in
       let last : suc c ≤ 4 = omega arith in
       record {
         within = omega (arith, n.within);
-        digits = rw (one_more, pow-suc 4 (longest_square_free - left)) (omega (arith, n.digits, mul-le-mul_left number few));
+        digits = rw (one_more_lem, pow-suc 4 (longest_square_free - left)) (omega (arith, n.digits, mul-le-mul_left number few));
         places = omega (arith, room, tried_le k next totals number (4 ^ next) (λ ts m. found_few k next ts m few) c, mul-le-mul_left (4 ^ next) last, mul-suc (4 ^ next) c);
       }

@@ -59,8 +59,8 @@ module _ (k left : ℕ) (before : List ℕ) (number at : ℕ) (out₀ : List ℕ
     pub stored-totals : Totals total_stored next
     stored-totals = totals-more totals left next h.one_less totals_now factor weight_now
 
-    with_letter : drop next total_stored ≡ with_letter (drop left before) c
-    with_letter =
+    with_letter_lem : drop next total_stored ≡ with_letter (drop left before) c
+    with_letter_lem =
         letter_totals totals left next h.one_less totals_now factor
         ∙ ap (λ (d : List ℕ). (get_or d 0 0 + factor) ∷ d) h.kept
         ∙ ap (λ (x : ℕ). (get_or (drop left before) 0 0 + x) ∷ drop left before) h.weighs
@@ -90,7 +90,7 @@ module _ (k left : ℕ) (before : List ℕ) (number at : ℕ) (out₀ : List ℕ
     pub square_passed : ends_square (drop next total_stored) ≡ true → Tried total_stored out to (factor * 32) (longer + 1) (c + 1)
     unfolding stored
     square_passed e =
-        letter_tried [] (tried_square k next (drop left before) number c (ap ends_square (sym with_letter) ∙ e) ∙ sym (append-nil _)) refl (omega arith) refl refl
+        letter_tried [] (tried_square k next (drop left before) number c (ap ends_square (sym with_letter_lem) ∙ e) ∙ sym (append-nil _)) refl (omega arith) refl refl
 
     -- it completes none, and the words that go on with it have been found
     pub letter_found : ends_square (drop next total_stored) ≡ false → {totals' out' : List ℕ} {to' : ℕ} → length totals' ≡ length total_stored
@@ -98,8 +98,8 @@ module _ (k left : ℕ) (before : List ℕ) (number at : ℕ) (out₀ : List ℕ
         → out' ≡ stored to (found k next (drop next total_stored) longer) out → Tried totals' out' to' (factor * 32) (longer + 1) (c + 1)
     letter_found e =
         letter_tried (found k next (drop next total_stored) longer)
-        (tried_free k next (drop left before) number c (ap ends_square (sym with_letter) ∙ e)
-        ∙ ap (λ (l : List ℕ). tried k next (drop left before) number c ++ l) (sym (ap₂ (found k next) with_letter h.digits)))
+        (tried_free k next (drop left before) number c (ap ends_square (sym with_letter_lem) ∙ e)
+        ∙ ap (λ (l : List ℕ). tried k next (drop left before) number c ++ l) (sym (ap₂ (found k next) with_letter_lem h.digits)))
 
   -- all letters have been tried
   module _ {totals out : List ℕ} {to factor longer c : ℕ} (h : Tried totals out to factor longer c) (d : k ≤ c) where

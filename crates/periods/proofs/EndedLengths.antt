@@ -18,7 +18,7 @@ use Rattle.abelian.specs.EndedLengths.{ended_length}
 use Rattle.abelian.specs.Trackers.{entry_added}
 use Rattle.abelian.proofs.Tests.{is_true, is_false, passes, decided, iff_equal}
 use Rattle.abelian.proofs.Lists.{mem-up_from, up_from-mem, up_from_last, first_passing-found, first_passing-none, none-first_passing, first_passing-append, first_passing_agree}
-use Rattle.abelian.proofs.Pairs.{InRange, in-range, range_in}
+use Rattle.abelian.proofs.Pairs.{InRange, in_range_lem, range_in}
 use Rattle.periods.proofs.OnceEnded.{once_ended}
 
 -- the pair has ended at the length m
@@ -126,7 +126,7 @@ module _ (w : List ℕ) (b : ℕ) (x : Pair) (p : 1 ≤ x.period) (h : x.head < 
     where
       go : Dec (suc (length w) < x.head + x.period) → ended_length W x ≡ entry_added W x (ended_length w x)
       go (yes l) =
-          let out : in_range (length W) x ≡ false = is_false (in_range (length W) x) (λ t. let r : InRange (length W) x = in-range (length W) x t in omega (arith, r.fits, length-W)) in
+          let out : in_range (length W) x ≡ false = is_false (in_range (length W) x) (λ t. let r : InRange (length W) x = in_range_lem (length W) x t in omega (arith, r.fits, length-W)) in
           rw (out_of_range_open W x (omega (arith, length-W)), out_of_range_open w x (omega arith), out)
       go (no l) =
           let within : in_range (length W) x ≡ true =

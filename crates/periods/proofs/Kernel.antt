@@ -19,7 +19,7 @@ use Rattle.abelian.proofs.Tests.{is_false, passes, fails, decided, iff_equal}
 use Rattle.abelian.proofs.Lists.{equal_same}
 use Rattle.abelian.proofs.Counts.{letters-take, letters-drop, letters-part, shorter_contained, contained-none_above}
 use Rattle.abelian.proofs.Pairs.{InRange}
-use Rattle.abelian.proofs.Definition1.{Alike, period_conditions, conditions_period, block-length, head_length}
+use Rattle.abelian.proofs.Definition1.{Alike, period_conditions, conditions_period, block-length, head_length_lem}
 use Rattle.periods.proofs.OnceEnded.{Reach, reach}
 
 -- block 1 begins behind the head
@@ -68,7 +68,7 @@ module _ (w : List ℕ) (x : Pair) (t : T (of_letters w)) (r : InRange (length w
         range = r;
         head_contained =
             shorter_contained (head_of w x) (block w x 1) head_letters block-letters (passes (none_above (vector (head_of w x)) (vector (block w x 1))) h)
-            (omega (arith, head_length w x r, block-length w x r, r.below));
+            (omega (arith, head_length_lem w x r, block-length w x r, r.below));
         alike = a;
         tail_contained =
             shorter_contained (tail_of w x) (block w x 1) tail_letters block-letters n (omega (arith, tail_short, block-length w x r));
@@ -122,13 +122,13 @@ module _ (w : List ℕ) (x : Pair) (r : InRange (length w) x) where
         }
 
     -- no more is whole: the blocks passed are all of them, and the tail is what is left
-    pub all_passed : length w - at < x.period → whole_blocks (length w) x ≡ p.blocks
+    pub all_passed_lem : length w - at < x.period → whole_blocks (length w) x ≡ p.blocks
     unfolding whole_blocks
-    all_passed l =
+    all_passed_lem l =
         let e : length w - x.head ≡ p.blocks * x.period + (length w - at) = omega (arith, p.reached, p.within) in
         rw e (digits_div p.blocks l)
 
     pub tail_left : length w - at < x.period → tail_of w x ≡ part w at (length w - at)
     unfolding tail_of
     tail_left l =
-        rw (all_passed l, ← p.reached) (sym (take_all (length w - at) (drop at w) (omega (arith, length-drop at w))))
+        rw (all_passed_lem l, ← p.reached) (sym (take_all (length w - at) (drop at w) (omega (arith, length-drop at w))))

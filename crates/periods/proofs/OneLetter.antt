@@ -17,8 +17,8 @@ use Rattle.abelian.specs.Periods.{Pair, pair, in_range, head_of, block, whole_bl
 use Rattle.abelian.proofs.Tests.{both, is_true}
 use Rattle.abelian.proofs.Lists.{all-mem}
 use Rattle.abelian.proofs.Counts.{vector_counts, counts_vector, counts_none_above, is_letter-mem, letters_inside}
-use Rattle.abelian.proofs.Pairs.{InRange, in-range, range_in}
-use Rattle.abelian.proofs.Definition1.{Alike, Conditions, period_conditions, block-length, head_length}
+use Rattle.abelian.proofs.Pairs.{InRange, in_range_lem, range_in}
+use Rattle.abelian.proofs.Definition1.{Alike, Conditions, period_conditions, block-length, head_length_lem}
 use Rattle.periods.proofs.OnceEnded.{whole_length}
 use Rattle.periods.proofs.Kernel.{tail_short, tail_decides}
 
@@ -55,8 +55,8 @@ module _ (a : ℕ) where
     unfolding block
     only_block k = only_part w (x.head + (k - 1) * x.period) x.period only
 
-    blocks-alike : Alike w x
-    blocks-alike k l m =
+    blocks_alike_lem : Alike w x
+    blocks_alike_lem k l m =
         let e : length (block w x k) ≡ length (block w x 1) = whole_length w x r k l m ∙ sym (block-length w x r) in
         counts_vector (block w x k) (block w x 1)
         (λ c i. omega (
@@ -69,7 +69,7 @@ module _ (a : ℕ) where
     unfolding head_of
     head_within =
         counts_none_above (head_of w x) (block w x 1)
-        (λ c i. only_counts (head_of w x) (block w x 1) (only_take x.head w only) (only_block 1) (omega (arith, head_length w x r, block-length w x r, r.below)) c)
+        (λ c i. only_counts (head_of w x) (block w x 1) (only_take x.head w only) (only_block 1) (omega (arith, head_length_lem w x r, block-length w x r, r.below)) c)
 
     tail_within : T (none_above (vector (tail_of w x)) (vector (block w x 1)))
     unfolding tail_of
@@ -79,12 +79,12 @@ module _ (a : ℕ) where
         (omega (arith, tail_short w x t r, block-length w x r)) c)
 
     only_period : T (is_period w x)
-    only_period = rw (tail_decides w x t r (is_true (none_above (vector (head_of w x)) (vector (block w x 1))) head_within) blocks-alike) tail_within
+    only_period = rw (tail_decides w x t r (is_true (none_above (vector (head_of w x)) (vector (block w x 1))) head_within) blocks_alike_lem) tail_within
 
 every_pair : (w : List ℕ) → T (of_letters w) → T (all_equal w) → (x : Pair) → T (in_range (length w) x) → T (is_period w x)
 unfolding all_equal
 every_pair w t e x r =
-    only_period (get_or w 0 0) w x t (λ y m. eqb→eq y (get_or w 0 0) (all-mem (λ (z : ℕ). eqb z (get_or w 0 0)) w e m)) (in-range (length w) x r)
+    only_period (get_or w 0 0) w x t (λ y m. eqb→eq y (get_or w 0 0) (all-mem (λ (z : ℕ). eqb z (get_or w 0 0)) w e m)) (in_range_lem (length w) x r)
 
 -- ---- from the pair (0, 1) to equal letters
 

@@ -20,7 +20,7 @@ use Rattle.abelian.specs.Calls.{full_words, period_words, report_words}
 use Rattle.report.specs.Places.{report_places}
 use Rattle.abelian.proofs.Tests.{fails, both, left, right}
 use Rattle.abelian.proofs.Lists.{all-mem, up_from-mem, keep_shorter, keep_whole}
-use Rattle.abelian.proofs.Pairs.{in-range, range_in, in_range_longer, in_range-pairs}
+use Rattle.abelian.proofs.Pairs.{in_range_lem, range_in, in_range_longer, in_range-pairs}
 use Rattle.periods.proofs.OneLetter.{all_equal_exactly}
 use Rattle.board.proofs.Places.{board_length, keep-in_range}
 use Rattle.squares.specs.Marks.{start_marks, square_marks}
@@ -47,9 +47,9 @@ both_shorter f g (x ∷ xs) = go (f x) (g x) (both_shorter f g xs)
 abbrev few_divisors : ℕ → Bool
 few_divisors n = leb (length (keep (λ (d : ℕ). proper_divisor d n) (up_from 1 n))) 19
 
-few_divisors : (n : ℕ) → n ≤ longest → length (keep (λ (d : ℕ). proper_divisor d n) (up_from 1 n)) ≤ 19
+few_divisors_lem : (n : ℕ) → n ≤ longest → length (keep (λ (d : ℕ). proper_divisor d n) (up_from 1 n)) ≤ 19
 unfolding longest divides proper_divisor
-few_divisors n h = leb→le _ 19 (all-mem few_divisors (up_from 0 241) tt (up_from-mem 0 241 n (omega arith) (omega arith)))
+few_divisors_lem n h = leb→le _ 19 (all-mem few_divisors (up_from 0 241) tt (up_from-mem 0 241 n (omega arith) (omega arith)))
 
 module _ (w : List ℕ) where
   -- the head's word, and those of the three lists
@@ -65,7 +65,7 @@ module _ (w : List ℕ) where
   full_few : length w ≤ longest → length (full_periods w) ≤ 19
   unfolding full_periods is_full
   full_few h =
-      omega (arith, few_divisors (length w) h, both_shorter (λ (p : ℕ). proper_divisor p (length w)) (λ (p : ℕ). is_period w (pair 0 p)) (up_from 1 (length w)))
+      omega (arith, few_divisors_lem (length w) h, both_shorter (λ (p : ℕ). proper_divisor p (length w)) (λ (p : ℕ). is_period w (pair 0 p)) (up_from 1 (length w)))
 
   -- no more Abelian periods than a board has entries
   periods_few : length w ≤ longest → length (periods w) ≤ board_size
@@ -81,9 +81,9 @@ module _ (w : List ℕ) where
       each_shorter (λ (q : ℕ). map (square_word q) (square_starts w q)) (start_marks w) (up_from 1 (length w))
       (λ q. omega (arith, length-map (square_starts w q) (square_word q), fewer_words w q))
 
-  pub report_places : length w ≤ longest → length (report_words w) ≤ report_places
+  pub report_places_lem : length w ≤ longest → length (report_words w) ≤ report_places
   unfolding report_places
-  report_places h = omega (arith, report_length, full_few h, periods_few h, squares_few, candidates_bound w h)
+  report_places_lem h = omega (arith, report_length, full_few h, periods_few h, squares_few, candidates_bound w h)
 
 -- ---- a bound that no report reaches
 
@@ -103,12 +103,12 @@ module _ (w : List ℕ) (short : length w ≤ longest) (full : board_size ≤ le
   -- so it is as long
   as_long : longest ≤ length w
   unfolding in_range longest
-  as_long = (in-range (length w) (pair 0 longest) (left (in_range (length w) (pair 0 longest)) (is_period w (pair 0 longest)) (every (pair 0 longest) tt))).fits
+  as_long = (in_range_lem (length w) (pair 0 longest) (left (in_range (length w) (pair 0 longest)) (is_period w (pair 0 longest)) (every (pair 0 longest) tt))).fits
 
   -- and all its letters are equal
-  equal_letters : T (of_letters w) → T (all_equal w)
-  equal_letters t =
-      (all_equal_exactly w t).1 (λ x r. right (in_range (length w) x) (is_period w x) (every x (range_in longest x (in_range_longer (in-range (length w) x r) short))))
+  equal_letters_lem : T (of_letters w) → T (all_equal w)
+  equal_letters_lem t =
+      (all_equal_exactly w t).1 (λ x r. right (in_range (length w) x) (is_period w x) (every x (range_in longest x (in_range_longer (in_range_lem (length w) x r) short))))
 
 module _ (w : List ℕ) (reported : report_refusal w 0 0 ≡ none) where
   -- such a word is not reported
@@ -122,7 +122,7 @@ module _ (w : List ℕ) (reported : report_refusal w 0 0 ≡ none) where
           let short = reported_length w reported in
           absurd
           (fails (one_letter w) (accepted_other w reported)
-          (both (leb 2 (length w)) (all_equal w) (le→leb 2 (length w) (omega (arith, as_long w short full))) (equal_letters w short full (reported_letters w reported))))
+          (both (leb 2 (length w)) (all_equal w) (le→leb 2 (length w) (omega (arith, as_long w short full))) (equal_letters_lem w short full (reported_letters w reported))))
 
   pub report_below : length (report_words w) < report_places
   unfolding report_places

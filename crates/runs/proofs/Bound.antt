@@ -95,8 +95,8 @@ module _ (w : List ℕ) where
 
   module _ (n : ℕ) (within : length w ≤ n) where
     -- the words of one block length are at most two for each start that there can be among the candidates of n letters
-    row_bound : (d : ℕ) → 1 ≤ d → length (row_words w d) ≤ 2 * row_bound (suc n - 2 * d) d
-    row_bound d size =
+    row_bound_lem : (d : ℕ) → 1 ≤ d → length (row_words w d) ≤ 2 * row_bound (suc n - 2 * d) d
+    row_bound_lem d size =
         let s : ℕ = suc (length w) - 2 * d in
         let l : s ≤ suc n - 2 * d = omega arith in
         omega (
@@ -111,7 +111,7 @@ module _ (w : List ℕ) where
     rows_bound : (a k : ℕ) → 1 ≤ a → length (each (up_from a k) (row_words w)) ≤ 2 * sum (map (λ (d : ℕ). row_bound (suc n - 2 * d) d) (up_from a k))
     rows_bound a zero h = omega arith
     rows_bound a (suc k) h =
-        omega (arith, length-append (row_words w a) (each (up_from (suc a) k) (row_words w)), row_bound a h, rows_bound (suc a) k (omega arith))
+        omega (arith, length-append (row_words w a) (each (up_from (suc a) k) (row_words w)), row_bound_lem a h, rows_bound (suc a) k (omega arith))
 
     -- and so are those of all block lengths: blocks that are longer than the word have no run
     words_bound : length (run_words w) ≤ 2 * runs_bound n

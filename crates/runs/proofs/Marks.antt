@@ -33,9 +33,9 @@ module _ (w marks : List ℕ) (d i : ℕ) (e : marks ≡ start_marks w d) (start
   mark_told = ap (λ (l : List ℕ). eqb (get_or l (i - 1) 0) 1) e ∙ start_marked w d i start candidates
 
   -- no block lies before the first d starts
-  pub first_starts : i ≤ d → eqb (get_or marks (i - 1) 0) 1 ≡ starts_run w d i
+  pub first_starts_lem : i ≤ d → eqb (get_or marks (i - 1) 0) 1 ≡ starts_run w d i
   unfolding starts_run goes_back
-  first_starts h = rw (le-ltb d i h) mark_told
+  first_starts_lem h = rw (le-ltb d i h) mark_told
 
   -- of the others the candidate one block before tells
   pub later_starts : d < i → ltb (get_or marks (i - 1 - d) 0) (get_or marks (i - 1) 0) ≡ starts_run w d i

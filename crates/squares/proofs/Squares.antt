@@ -68,9 +68,9 @@ module _ (w : List ℕ) where
       (r.0, k.0, start_square w r.0 k.0 (mem-up_from 1 (length w) r.1).0 k.1, k.2)
 
   -- every square's word is in the list
-  pub square-word : {q i : ℕ} → AbelianSquare w q i → Memᴰ (square_word q i) (square_words w)
+  pub square_word_lem : {q i : ℕ} → AbelianSquare w q i → Memᴰ (square_word q i) (square_words w)
   unfolding square_words
-  square-word {q} {i} s =
+  square_word_lem {q} {i} s =
       each-mem (half_words w) (up_from 1 (length w)) (up_from-mem 1 (length w) q s.half (omega (arith, s.within, s.start)))
       (mathlib.Core.List.Memᴰ.map (square_word q) (square_start w q i s))
 
@@ -81,7 +81,7 @@ module _ (w : List ℕ) where
 
   -- a half length and a start are in the list exactly where they are a square
   pub words_definition : (q i : ℕ) → length w ≤ longest → i < 2 ^ 14 → Memᴰ (square_word q i) (square_words w) ↔ AbelianSquare w q i
-  words_definition q i l b = (from, square-word)
+  words_definition q i l b = (from, square_word_lem)
     where
       from : Memᴰ (square_word q i) (square_words w) → AbelianSquare w q i
       from m =

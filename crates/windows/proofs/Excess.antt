@@ -11,9 +11,9 @@ use Rattle.windows.specs.Excess.{excess_of, excess, nonzero}
 
 module _ (a b : ℕ) where
   -- one more
-  pub one_more : b ≤ 2 ^ 8 → (excess_of a b + 1) % 2 ^ 8 ≡ excess_of (a + 1) b
+  pub one_more_lem : b ≤ 2 ^ 8 → (excess_of a b + 1) % 2 ^ 8 ≡ excess_of (a + 1) b
   unfolding excess_of
-  one_more h = mod-add-mod (2 ^ 8 + a - b) (2 ^ 8) 1 ∙ ap (λ (k : ℕ). k % 2 ^ 8) (omega arith)
+  one_more_lem h = mod-add-mod (2 ^ 8 + a - b) (2 ^ 8) 1 ∙ ap (λ (k : ℕ). k % 2 ^ 8) (omega arith)
 
   -- one less: 255 more, modulo 2^8
   pub one_less : b ≤ 2 ^ 8 → 1 ≤ a → (excess_of a b + 255) % 2 ^ 8 ≡ excess_of (a - 1) b

@@ -21,9 +21,9 @@ module _ (ws out : List ℕ) where
   fill_places-all h = ap (λ (l : List ℕ). fill l out) (take_all (length out) ws h)
 
   -- one word more, where there is a place for it
-  one_more : (v : ℕ) → set (fill_places ws out) (length ws) v ≡ fill_places (ws ++ (v ∷ [])) out
+  one_more_lem : (v : ℕ) → set (fill_places ws out) (length ws) v ≡ fill_places (ws ++ (v ∷ [])) out
   unfolding fill_places
-  one_more v =
+  one_more_lem v =
       ⊎_elim
       (λ (h : length ws < length out).
       let l : length ws ≤ length out = omega arith in
@@ -37,7 +37,7 @@ module _ (ws out : List ℕ) where
   -- a start that is a window's is noted, and no other
   pub noted_more : (fits : Bool) (start : ℕ) → noted (fill_places ws out) (length ws) fits start ≡ fill_places (ws ++ pick fits (window_word start ∷ []) []) out
   unfolding noted
-  noted_more true start = one_more (window_word start)
+  noted_more true start = one_more_lem (window_word start)
   noted_more false start = ap (λ (l : List ℕ). fill_places l out) (sym (append-nil ws))
 
 -- no word: the slice as it came

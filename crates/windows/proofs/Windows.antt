@@ -13,7 +13,7 @@ use Rattle.abelian.proofs.Counts.{count-le-length, letters-drop}
 use Rattle.words.proofs.Vectors.{length-vector, vector_at, counts_are_vector, letter_at, vector-take-more}
 use Rattle.windows.specs.Excess.{excess, nonzero}
 use Rattle.windows.specs.Sliding.{first_words}
-use Rattle.windows.proofs.Excess.{one_more, one_less, excess_at, excess-set, no_excess}
+use Rattle.windows.proofs.Excess.{one_more_lem, one_less, excess_at, excess-set, no_excess}
 
 -- a count of a stretch that is no longer than a word is one of 8 bits
 pub count_small : (u : List ℕ) → length u ≤ longest → (j : ℕ) → j < alphabet_size → get_or (vector u) j 0 < 2 ^ 8
@@ -66,15 +66,15 @@ module _ (w : List ℕ) (at rest : ℕ) {size : ℕ} (letters : T (of_letters w)
   joins_place : get_or w (at + rest) 0 - first_letter < alphabet_size
   joins_place = omega (arith, letter_at w (at + rest) letters room)
 
-  first_letter : (first_letter ≤ get_or w at 0) × (get_or w at 0 < first_letter + alphabet_size)
-  first_letter = letter_at w at letters (omega arith)
+  first_letter_lem : (first_letter ≤ get_or w at 0) × (get_or w at 0 < first_letter + alphabet_size)
+  first_letter_lem = letter_at w at letters (omega arith)
 
   -- the letter at the start leaves the stretch, in which it has been counted
   vector_left : set (vector (part w at size)) (get_or w at 0 - first_letter) (get_or (vector (part w at size)) (get_or w at 0 - first_letter) 0 - 1) ≡ vector (part w (at + 1) rest)
-  vector_left = rw part_first (vector_less (part w (at + 1) rest) (get_or w at 0) first_letter.0 first_letter.1)
+  vector_left = rw part_first (vector_less (part w (at + 1) rest) (get_or w at 0) first_letter_lem.0 first_letter_lem.1)
 
   first_counted : 1 ≤ get_or (vector (part w at size)) (get_or w at 0 - first_letter) 0
-  first_counted = rw part_first (place_counted (part w (at + 1) rest) (get_or w at 0) first_letter.0 first_letter.1)
+  first_counted = rw part_first (place_counted (part w (at + 1) rest) (get_or w at 0) first_letter_lem.0 first_letter_lem.1)
 
   module _ (pattern : List ℕ) (short : length pattern ≤ longest) where
     -- the excess over the pattern's vector, once the letter behind the stretch has joined it
@@ -86,7 +86,7 @@ module _ (w : List ℕ) (at rest : ℕ) {size : ℕ} (letters : T (of_letters w)
         let j : ℕ = get_or w (at + rest) 0 - first_letter in
         let l : j < length u = omega (arith, joins_place, length-vector (part w at rest)) in
         let m : j < length p = omega (arith, joins_place, length-vector pattern) in
-        rw (e, excess_at u p j l m, one_more (get_or u j 0) (get_or p j 0) (omega (arith, count_small pattern short j joins_place)), excess-set u p j (get_or u j 0 + 1) l m)
+        rw (e, excess_at u p j l m, one_more_lem (get_or u j 0) (get_or p j 0) (omega (arith, count_small pattern short j joins_place)), excess-set u p j (get_or u j 0 + 1) l m)
         (ap (λ (x : List ℕ). excess x p) vector_joined)
 
     -- and once the first letter has left it
@@ -96,7 +96,7 @@ module _ (w : List ℕ) (at rest : ℕ) {size : ℕ} (letters : T (of_letters w)
         let u : List ℕ = vector (part w at size) in
         let p : List ℕ = vector pattern in
         let j : ℕ = get_or w at 0 - first_letter in
-        let b : j < alphabet_size = omega (arith, first_letter) in
+        let b : j < alphabet_size = omega (arith, first_letter_lem) in
         let l : j < length u = omega (arith, length-vector (part w at size)) in
         let m : j < length p = omega (arith, length-vector pattern) in
         rw (e, excess_at u p j l m, one_less (get_or u j 0) (get_or p j 0) (omega (arith, count_small pattern short j b)) first_counted, excess-set u p j (get_or u j 0 - 1) l m)

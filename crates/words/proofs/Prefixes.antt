@@ -69,20 +69,20 @@ module _ (w : List ℕ) where
   length-prefix_counts = length-map (up_from 0 (suc longest)) (prefix_row w) ∙ length-up_from 0 (suc longest)
 
   -- row i is that of the first i letters
-  prefix_row : (i : ℕ) → i ≤ longest → get_or (prefix_counts w) i [] ≡ prefix_row w i
+  prefix_row_lem : (i : ℕ) → i ≤ longest → get_or (prefix_counts w) i [] ≡ prefix_row w i
   unfolding prefix_counts
-  prefix_row i h = map-up_from_at (prefix_row w) 0 (suc longest) i [] (omega arith) ∙ ap (prefix_row w) (zero-add i)
+  prefix_row_lem i h = map-up_from_at (prefix_row w) 0 (suc longest) i [] (omega arith) ∙ ap (prefix_row w) (zero-add i)
 
   -- a table of that many rows, each that of its prefix, is that of the prefix counts
   pub rows_are_prefix_counts : (table : List (List ℕ)) → length table ≡ suc longest → ((i : ℕ) → i ≤ longest → get_or table i [] ≡ prefix_row w i) → table ≡ prefix_counts w
   rows_are_prefix_counts table e h =
       ext_get_or [] table (prefix_counts w) (e ∙ sym length-prefix_counts)
-      (λ i m. let b : i ≤ longest = omega arith in h i b ∙ sym (prefix_row i b))
+      (λ i m. let b : i ≤ longest = omega arith in h i b ∙ sym (prefix_row_lem i b))
 
 -- what is read from a table that is known to hold an accepted word's prefix counts
 module _ {w : List ℕ} {table : List (List ℕ)} (c : Counted w table) where
   pub counted_row : (i : ℕ) → i ≤ length w → get_or table i [] ≡ prefix_row w i
-  counted_row i l = rw c.rows (prefix_row w i (omega (arith, c.short)))
+  counted_row i l = rw c.rows (prefix_row_lem w i (omega (arith, c.short)))
 
   module _ {longer shorter : List ℕ} where
     -- no count falls from a row to a later one

@@ -64,8 +64,8 @@ module _ (c : tie.After-row-heads invariant-loop decreases-loop) where
   within : row_start p + heads n p ≤ length board
   within = omega (arith, row_end n p at-loop.loop.inv.0.from taken start.pre.0, fits)
 
-  row_open : length (open_up_to n board p) ≡ length (open_up_to n board (p - 1)) + count 0 (part board (row_start p) (heads n p))
-  row_open = open_up_to_counts n board p at-loop.loop.inv.0.from within
+  row_open_lem : length (open_up_to n board p) ≡ length (open_up_to n board (p - 1)) + count 0 (part board (row_start p) (heads n p))
+  row_open_lem = open_up_to_counts n board p at-loop.loop.inv.0.from within
 
   same-places : length at-loop.loop.out ≡ length start.args.out.now
   same-places = ap length at-loop.loop.inv.2 ∙ length-sets start.args.out.now 0 (map period_word (open_up_to n board (p - 1)))
@@ -88,7 +88,7 @@ write-row-requires : tie.Need-write-row-requires invariant-loop decreases-loop
 write-row-requires c κs =
     let r = c.before.before in (
       (omega (arith, ap length (lent r), row_short (board r) (n r) (p r) (taken r) (start r).requires.0), omega (arith, (start r).requires.0)),
-      omega (arith, ap (count 0) (lent r), row_open r, open_up_to_rises (n r) (board r) (taken r), ap length (open_up_to_all (n r) (board r) (start r).requires.0 (fits r)), (start r).requires.1, same-places r, (at-loop r).loop.invariant.1),
+      omega (arith, ap (count 0) (lent r), row_open_lem r, open_up_to_rises (n r) (board r) (taken r), ap length (open_up_to_all (n r) (board r) (start r).requires.0 (fits r)), (start r).requires.1, same-places r, (at-loop r).loop.invariant.1),
     )
 
 row-heads-requires-2 : tie.Need-row-heads-requires-2 invariant-loop decreases-loop
@@ -116,7 +116,7 @@ loop-again c =
     let w = c.before.before.before.write-row in
     let e : p r + 1 - 1 ≡ p r = omega arith in (
       next_at_row (at-loop r).loop.invariant.0 (taken r) (start r).requires.0 c.row-heads2.ensures,
-      rw e (omega (arith, w.ensures.0, ap (count 0) (lent r), row_open r, (at-loop r).loop.invariant.1)),
+      rw e (omega (arith, w.ensures.0, ap (count 0) (lent r), row_open_lem r, (at-loop r).loop.invariant.1)),
       rw e (w.ensures.1 ∙ ap (λ (es : List ℕ). sets (at-loop r).loop.out (at-loop r).loop.at (row_words (p r) 0 es)) (lent r) ∙ row-stored (n r) (board r) (start r).args.out.now (at-loop r).loop.out (at-loop r).loop.at (p r) (at-loop r).loop.invariant.0.from (within r) (at-loop r).loop.invariant.1 (at-loop r).loop.invariant.2),
     )
 

@@ -15,7 +15,7 @@ use Rattle.abelian.specs.Answers.{writing}
 use Rattle.abelian.specs.Calls.{full_words, full_listing}
 use Rattle.words.proofs.Refusals.{accepted_none, refused_some, accepted_length, accepted_letters}
 use Rattle.words.proofs.Listings.{listing_refused, listing_short, listing_written}
-use Rattle.full_periods.proofs.Listing.{steps_of_one, marked-words, marked-count}
+use Rattle.full_periods.proofs.Listing.{steps_of_one, marked_words, marked-count}
 use Rattle.full_periods.proofs.list_full.Statement.{statement}
 use Rattle.full_periods.proofs.list_full.Tie as tie
 
@@ -89,7 +89,7 @@ returns-3 c =
     let told = counted.before.before.before in
     let w = word told in
     let wrote : c.before.before.write-marked.new.1.1.1.0 ≡ fill (full_words w) (out told) =
-    c.before.before.write-marked.ensures ∙ ap (λ (ws : List ℕ). fill ws (out told)) (marked-words w counted.before.before.mark-full.result (short told) counted.before.before.mark-full.ensures) in
+    c.before.before.write-marked.ensures ∙ ap (λ (ws : List ℕ). fill ws (out told)) (marked_words w counted.before.before.mark-full.result (short told) counted.before.before.mark-full.ensures) in
     ap₂ (λ (k : ℕ) (l : List ℕ). writing k 0 0 0 l) (needed counted) wrote
     ∙ sym (listing_written w (out told) (full_words w) 0 0 0 (accepted told) (omega (arith, needed counted, c.before.before.before.before.before.if1.false)))
 

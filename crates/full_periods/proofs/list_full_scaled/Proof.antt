@@ -18,7 +18,7 @@ use Rattle.abelian.specs.FullPeriods.{scale, scaled_gap}
 use Rattle.full_periods.specs.declared.scaled.ScaledPath.{ScaledPath}
 use Rattle.full_periods.specs.Marks.{Steps, full_marks}
 use Rattle.words.proofs.Listings.{listing_refused, listing_short, listing_written}
-use Rattle.full_periods.proofs.Listing.{path_steps, marked-words, marked-count}
+use Rattle.full_periods.proofs.Listing.{path_steps, marked_words, marked-count}
 use Rattle.full_periods.proofs.list_full_scaled.Statement.{statement}
 use Rattle.full_periods.proofs.list_full_scaled.Tie as tie
 
@@ -105,7 +105,7 @@ returns-3 c =
     let w = word (told counted) in
     let o = out (told counted) in
     let wrote : c.before.before.write-marked.new.1.1.1.0 ≡ fill (full_words w) o =
-    c.before.before.write-marked.ensures ∙ ap (λ (ws : List ℕ). fill ws o) (marked-words w (path counted).marks (short (told counted)) (table_is counted)) in
+    c.before.before.write-marked.ensures ∙ ap (λ (ws : List ℕ). fill ws o) (marked_words w (path counted).marks (short (told counted)) (table_is counted)) in
     let found = counted.before.before.before.find-path.ensures in
     ap₂ (λ (k : ℕ) (l : List ℕ). writing k 0 (path counted).s (path counted).t l) (needed counted) wrote
     ∙ ap (λ (x : ScaledPath). writing (length (full_words w)) 0 x.s x.t (fill (full_words w) o)) found

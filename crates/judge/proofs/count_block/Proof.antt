@@ -8,7 +8,7 @@ use lib.Dec.{T}
 use Rattle.abelian.specs.Words.{longest, of_letters, vector, part}
 use Rattle.abelian.specs.Periods.{Pair, pair}
 use Rattle.abelian.proofs.Counts.{letters-part}
-use Rattle.abelian.proofs.Pairs.{InRange, in-range}
+use Rattle.abelian.proofs.Pairs.{InRange, in_range_lem}
 use Rattle.judge.specs.Accepted.{Accepted}
 use Rattle.judge.proofs.Blocks.{block_at_head, start, start_within, part_whole, part_tail}
 use borrow.Author.Rules.{rules}
@@ -23,7 +23,7 @@ module _ (c : tie.Start) where
   x = pair c.args.head.0 c.args.period.0
 
   range : InRange (length w) x
-  range = in-range (length w) x c.requires.0.range
+  range = in_range_lem (length w) x c.requires.0.range
 
 -- each part of the word can be counted
 countable : (w : List ℕ) (x : Pair) → Accepted w x → (from size : ℕ) → T (of_letters (part w from size)) × (length (part w from size) ≤ longest)

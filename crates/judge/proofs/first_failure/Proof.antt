@@ -11,7 +11,7 @@ use borrow.Author.Tests.{eq-eqb, ne_eqb}
 use Rattle.abelian.specs.Words.{alphabet_size, first_letter}
 use Rattle.abelian.specs.Periods.{Pair, pair, whole_blocks}
 use Rattle.abelian.specs.Judge.{is_end, breaks}
-use Rattle.abelian.proofs.Pairs.{InRange, in-range}
+use Rattle.abelian.proofs.Pairs.{InRange, in_range_lem}
 use Rattle.judge.proofs.Blocks.{blocks_le_length, rule_at}
 use Rattle.judge.proofs.Failures.{Passed, Tried, next_letter, next_block, no_failure, failure_met}
 use Rattle.judge.proofs.first_failure.Statement.{statement}
@@ -37,7 +37,7 @@ module _ (c : tie.Start invariant-loop decreases-loop invariant-blocks2 decrease
   x = pair c.args.head.0 c.args.period.0
 
   range : InRange (length w) x
-  range = in-range (length w) x c.requires.range
+  range = in_range_lem (length w) x c.requires.range
 
 sub-whole : tie.Need-overflow-sub-whole invariant-loop decreases-loop invariant-blocks2 decreases-blocks2
 sub-whole c = omega (arith, (range c.before).fits)

@@ -7,20 +7,20 @@ use lib.Dec.{leb, leb→le, le→leb}
 use borrow.Author.Tests.{le-ltb}
 use Rattle.abelian.specs.Periods.{Pair, pair, in_range}
 use Rattle.abelian.proofs.Tests.{is_false, iff_equal}
-use Rattle.abelian.proofs.Pairs.{InRange, in-range, range_in}
+use Rattle.abelian.proofs.Pairs.{InRange, in_range_lem, range_in}
 use Rattle.judge.proofs.in_range.Statement.{statement}
 use Rattle.judge.proofs.in_range.Tie as tie
 
 -- what is out of range fails the test
 outside : (n : ℕ) (x : Pair) → (InRange n x → ⊥) → false ≡ in_range n x
-outside n x f = sym (is_false (in_range n x) (λ t. f (in-range n x t)))
+outside n x f = sym (is_false (in_range n x) (λ t. f (in_range_lem n x t)))
 
 -- with a period within n and a head below it, the last test decides
 last-test : (n : ℕ) (x : Pair) → x.period ≤ n → x.head < x.period → leb x.head (n - x.period) ≡ in_range n x
 last-test n x l h =
     iff_equal (leb x.head (n - x.period)) (in_range n x)
     (λ t. let f : x.head ≤ n - x.period = leb→le x.head (n - x.period) t in range_in n x (record { positive = omega arith; below = h; fits = omega arith }))
-    (λ t. le→leb x.head (n - x.period) (let r : InRange n x = in-range n x t in omega arith))
+    (λ t. le→leb x.head (n - x.period) (let r : InRange n x = in_range_lem n x t in omega arith))
 
 returns : tie.Need-returns
 returns c = let a = c.before.args in outside a.n (pair a.head.0 a.period.0) (λ r. omega (arith, r.fits, c.if1.true))

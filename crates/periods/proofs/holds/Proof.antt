@@ -13,10 +13,10 @@ use Rattle.abelian.specs.Words.{longest, vector, none_above}
 use Rattle.abelian.specs.Periods.{Pair, pair, head_of, block, whole_blocks, tail_of}
 use Rattle.abelian.proofs.Tests.{passes}
 use Rattle.abelian.proofs.Lists.{same_equal}
-use Rattle.abelian.proofs.Pairs.{InRange, in-range}
+use Rattle.abelian.proofs.Pairs.{InRange, in_range_lem}
 use Rattle.words.specs.Prefixes.{padded, Counted}
 use Rattle.words.proofs.Prefixes.{counted_row, counted_rises, counted_part, none_above_rows, same_rows}
-use Rattle.periods.proofs.Kernel.{Passed, first_block, first_passed, next_passed, next_block, next_whole, all_passed, tail_left, head_above, block_unlike, tail_decides}
+use Rattle.periods.proofs.Kernel.{Passed, first_block, first_passed, next_passed, next_block, next_whole, all_passed_lem, tail_left, head_above, block_unlike, tail_decides}
 use Rattle.periods.proofs.holds.Statement.{statement}
 use Rattle.periods.proofs.holds.Tie as tie
 
@@ -40,7 +40,7 @@ module _ (c : tie.Start invariant-loop decreases-loop) where
   x = pair c.args.head.0 c.args.period.0
 
   range : InRange (length w) x
-  range = in-range (length w) x c.requires.1
+  range = in_range_lem (length w) x c.requires.1
 
   -- head and block 1 lie in the word, whose rows are in the table
   within : (x.head < x.period) × (x.head + x.period ≤ length w) × (length w ≤ longest)
@@ -199,7 +199,7 @@ returns-3 c =
     let b = l.before.before.before in
     let p = done l in
     let left : length (w (u l)) - end l < (x (u l)).period = l.loop-test.false in
-    let blocks : whole_blocks (length (w (u l))) (x (u l)) ≡ p.blocks = all_passed (w (u l)) (x (u l)) (range (u l)) (end l) p left in
+    let blocks : whole_blocks (length (w (u l))) (x (u l)) ≡ p.blocks = all_passed_lem (w (u l)) (x (u l)) (range (u l)) (end l) p left in
     let tail : c.before.difference3.result ≡ padded (vector (tail_of (w (u l)) (x (u l)))) =
     counted_part (counted (u l)) (end l) (length (w (u l)) - end l) (rw (rest l).0 at r.before.row6.ensures) r.row7.ensures (omega (arith, rest l))
     c.before.difference3.ensures

@@ -16,7 +16,7 @@ use Rattle.abelian.specs.Calls.{report_words}
 use Rattle.words.proofs.Refusals.{accepted_none, refused_some}
 use Rattle.report.specs.Places.{report_places}
 use Rattle.report.proofs.Refusals.{report_refused, reported_letters, reported_length, report_short, report_written}
-use Rattle.report.proofs.Lengths.{report_places}
+use Rattle.report.proofs.Lengths.{report_places_lem}
 use Rattle.report.proofs.report.Statement.{statement}
 use Rattle.report.proofs.report.Tie as tie
 
@@ -40,7 +40,7 @@ unfolding report_places longest board_size
 fits c =
     let told = c.before in
     ⊎_elim (λ counted. omega (arith, counted.1.ensures, counted.2.left))
-    (λ long. omega (arith, long.left, report_places (w told) (reported_length (w told) (reported told)))) c.if1.branch
+    (λ long. omega (arith, long.left, report_places_lem (w told) (reported_length (w told) (reported told)))) c.if1.branch
 
 check-reported-requires : tie.Need-check-reported-requires
 check-reported-requires c κs = search rules

@@ -36,8 +36,8 @@ module _ (w : List ℕ) (i : ℕ) where
   equal-later h e = rw (add-one i, drop-cons w i 0 h, e)
 
   -- every letter was passed
-  all_passed : length w ≤ i → equal_from w i ≡ true
-  all_passed h = rw (drop_of_length-le w h)
+  all_passed_lem : length w ≤ i → equal_from w i ≡ true
+  all_passed_lem h = rw (drop_of_length-le w h)
 
 loop-holds : tie.Need-loop-init invariant-loop decreases-loop
 unfolding all_equal
@@ -70,7 +70,7 @@ loop-again c =
 returns-2 : tie.Need-returns-2 invariant-loop decreases-loop
 returns-2 c =
     let at-loop = c.before in
-    sym (at-loop.loop.invariant.1 ∙ all_passed at-loop.before.args.word.now at-loop.loop.i (omega arith))
+    sym (at-loop.loop.invariant.1 ∙ all_passed_lem at-loop.before.args.word.now at-loop.loop.i (omega arith))
 
 pub all-equal-spec : {M : Type 1} → statement M
 all-equal-spec =

@@ -56,9 +56,9 @@ module _ (c : tie.Else1) where
   scale-is = ap (λ (g : ℕ). length word / g) (divisor-is c.before)
 
 -- T by the table of the scaled positions
-gap_is : (c : tie.After-greatest-distance)
+gap_is_lem : (c : tie.After-greatest-distance)
     → c.greatest-distance.result / (length (word c.before.before.before.before) / c.before.before.before.before.before.count-divisor.result) ≡ scaled_gap (word c.before.before.before.before)
-gap_is c =
+gap_is_lem c =
     let chosen = c.before.before.before.before in
     let w = word chosen in
     ap₂ (λ (a b : ℕ). a / b)
@@ -118,10 +118,10 @@ div-t c =
 mark-full-requires : tie.Need-mark-full-requires
 mark-full-requires c κs =
     let chosen = c.before.before.before.before.before in
-    ((start chosen).requires.0, ((start chosen).requires.1, (some chosen, (scale-is chosen, (gap_is c.before, c.before.before.before.mark-scaled.ensures)))))
+    ((start chosen).requires.0, ((start chosen).requires.1, (some chosen, (scale-is chosen, (gap_is_lem c.before, c.before.before.before.mark-scaled.ensures)))))
 
 returns-2 : tie.Need-returns-2
-returns-2 c = path-is (scale-is c.before.before.before.before.before.before) (gap_is c.before.before) c.mark-full.ensures
+returns-2 c = path-is (scale-is c.before.before.before.before.before.before) (gap_is_lem c.before.before) c.mark-full.ensures
 
 pub find-path-spec : {M : Type 1} → statement M
 find-path-spec =

@@ -5,7 +5,7 @@ use borrow.Author.Rules.{rules}
 use Rattle.abelian.specs.Words.{longest}
 use Rattle.abelian.specs.Trackers.{board_size}
 use Rattle.report.specs.Places.{report_places}
-use Rattle.report.proofs.Lengths.{parts_length, report_places}
+use Rattle.report.proofs.Lengths.{parts_length, report_places_lem}
 use Rattle.report.proofs.parts.words_needed.Statement.{statement}
 use Rattle.report.proofs.parts.words_needed.Tie as tie
 
@@ -13,7 +13,7 @@ few : (c : tie.After-number-of-squares) → 1 + c.before.before.number-of-full-p
     ≤ report_places
 few c =
     let start = c.before.before.before.before in
-    omega (arith, parts_length start.args.word.now, report_places start.args.word.now start.requires.1)
+    omega (arith, parts_length start.args.word.now, report_places_lem start.args.word.now start.requires.1)
 
 number-of-full-periods-requires : tie.Need-number-of-full-periods-requires
 number-of-full-periods-requires c κs = search rules

@@ -21,7 +21,7 @@ use Rattle.abelian.specs.Calls.{full_words, period_words, report_words, scaled_l
 use Rattle.words.proofs.Refusals.{letters-none}
 use Rattle.words.proofs.Lists.{fill_more}
 use Rattle.report.specs.Places.{report_places}
-use Rattle.report.proofs.Lengths.{parts_length, report_places}
+use Rattle.report.proofs.Lengths.{parts_length, report_places_lem}
 use Rattle.report.proofs.Lending.{Behind, lent, scaled_says, listed_says, wrote_says}
 use Rattle.report.proofs.parts.write_parts.Statement.{statement}
 use Rattle.report.proofs.parts.write_parts.Tie as tie
@@ -50,7 +50,7 @@ module _ (c : tie.After-head-word) where
   room = start.pre.1.1
 
   few : length (report_words w) ≤ report_places
-  few = report_places w start.pre.1.0
+  few = report_places_lem w start.pre.1.0
 
   first : Behind before (head ∷ []) out₁ 1
   unfolding fill

@@ -22,9 +22,9 @@ record Counting (w marks : List ℕ) (d found s : ℕ) : Type 0 where
 
 module _ (w marks : List ℕ) (d found s : ℕ) (h : Counting w marks d found s) (l : s < length marks) where
   -- two words more, or none
-  one_more : starts_run w d (s + 1) ≡ true → Counting w marks d (found + 2) (s + 1)
+  one_more_lem : starts_run w d (s + 1) ≡ true → Counting w marks d (found + 2) (s + 1)
   unfolding words_of_run
-  one_more t =
+  one_more_lem t =
       record {
         within = omega arith;
         counted = omega (arith, h.counted, ap length (words_one_more w d s t), length-append (words_up_to w d s) (words_of_run (run_at w d (s + 1))));
@@ -59,7 +59,7 @@ loop-again : tie.Need-loop-preserved invariant-loop decreases-loop
 loop-again c =
     let at-loop = c.before.before.before in
     let start = at-loop.before.before.before in
-    one_more start.args.word.now start.args.marks.now start.args.period at-loop.loop.found at-loop.loop.start at-loop.loop.invariant
+    one_more_lem start.args.word.now start.args.marks.now start.args.period at-loop.loop.found at-loop.loop.start at-loop.loop.invariant
     (omega arith) (sym c.before.starts-run.ensures ∙ c.if1.true)
 
 loop-less-2 : tie.Need-loop-smaller-2 invariant-loop decreases-loop

@@ -1,5 +1,5 @@
 -- `runs::starts::starts_run` meets its contract, by the laws of marks. Assumes nothing.
-use Rattle.runs.proofs.Marks.{first_starts, later_starts}
+use Rattle.runs.proofs.Marks.{first_starts_lem, later_starts}
 use borrow.Author.Rules.{rules}
 use Rattle.runs.proofs.starts.starts_run.Statement.{statement}
 use Rattle.runs.proofs.starts.starts_run.Tie as tie
@@ -28,7 +28,7 @@ shared-slice-read-result-2 c = search rules
 returns : tie.Need-returns
 returns c =
     let start = c.before.before in
-    first_starts start.args.word.now start.args.marks.now start.args.period start.args.start
+    first_starts_lem start.args.word.now start.args.marks.now start.args.period start.args.start
     start.requires.0 start.requires.1.0 start.requires.1.1 c.before.if1.true
 
 returns-2 : tie.Need-returns-2

@@ -78,19 +78,19 @@ module _ (c : tie.After-differs) where
   square = is_square (word s) (half s) s.args.start
 
   -- what is compared are the rows of the two halves
-  first_half : first.difference.result ≡ padded (vector (part (word s) (from s) (half s)))
-  first_half =
+  first_half_lem : first.difference.result ≡ padded (vector (part (word s) (from s) (half s)))
+  first_half_lem =
       counted_part (counted s) (from s) (half s) first.before.before.row.ensures first.before.row2.ensures (omega arith) first.difference.ensures
 
-  second_half : second.difference2.result ≡ padded (vector (part (word s) (from s + half s) (half s)))
-  second_half =
+  second_half_lem : second.difference2.result ≡ padded (vector (part (word s) (from s + half s) (half s)))
+  second_half_lem =
       counted_part (counted s) (from s + half s) (half s) second.before.before.row3.ensures second.before.row4.ensures (omega arith)
       second.difference2.ensures
 
   -- so the comparison is the definition's
   compared : c.differs.result ≡ not square
   unfolding is_square
-  compared = c.differs.ensures ∙ ap not (same_rows (part (word s) (from s) (half s)) (part (word s) (from s + half s) (half s)) first_half second_half)
+  compared = c.differs.ensures ∙ ap not (same_rows (part (word s) (from s) (half s)) (part (word s) (from s + half s) (half s)) first_half_lem second_half_lem)
 
 returns : tie.Need-returns
 returns c = rw (not-true (square c.before) (sym (compared c.before) ∙ c.if1.true))
