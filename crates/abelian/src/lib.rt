@@ -1,5 +1,7 @@
 // The vocabulary of Abelian periods: the constants, the types of pairs and of sizes, of refusals, answers and trackers, and a refusal's number
 // and value. What each of them means is said in specs/, one file a subject; the crates above do the work.
+#![tactic(auto)]
+
 ghost use Rattle.std.specs.Prelude.{◌≡◌};
 ghost use Rattle.abelian.specs.Refusals.{number_of, value_of};
 

@@ -1,6 +1,8 @@
 // The board: one entry for each pair in range for 240, in pair order. Where the row of a period begins and how long it is, how many pairs are
 // in range, and those whose entry is 0 counted and written: the tracker's list ends in these two, its count and its take-back in the first, and both listers in
 // the second. For the crates above.
+#![tactic(auto)]
+
 pub mod ending;
 
 ghost use Rattle.std.specs.Prelude.{◌≡◌, ◌+◌, ◌≤◌, length};

@@ -1,4 +1,6 @@
 // Abelian covers (document 003): the search for the cover length of a word, in one pass from both ends.
+#![tactic(auto)]
+
 ghost use Rattle.std.specs.Prelude.{◌≡◌, ◌≤◌, T, length};
 ghost use Rattle.abelian.specs.Words.{longest, of_letters};
 ghost use Rattle.abelian.specs.Covers.{cover_length};

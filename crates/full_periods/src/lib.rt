@@ -1,6 +1,8 @@
 // Full periods of a word, listed and counted by two paths: the plain one counts every block, the scaled one goes by the scaled positions
 // of document 002. Both mark the full periods in a table, which is counted and then, for a list, written, so that a list that is too long
 // is refused before the first place of the slice is written.
+#![tactic(auto)]
+
 mod counts;
 mod marks;
 mod plain;

@@ -1,5 +1,7 @@
 // Histories: lists of calls from a fresh tracker. The claim over every list of calls stands in specs/History.antt, its theorem in
 // proofs/History.antt; here is the call that runs a list of calls, so that the claim is also about code.
+#![tactic(auto)]
+
 pub mod in_place;
 
 ghost use Rattle.std.specs.Prelude.{◌≡◌};

@@ -1,4 +1,6 @@
 // The judge: whether a pair is an Abelian period of a word, and if not, the first block and in it the first letter that breaks the rule.
+#![tactic(auto)]
+
 ghost use Rattle.std.specs.Prelude.{◌≡◌, not, ◌+◌, ◌≤◌, eqb, ltb, length};
 ghost use Rattle.abelian.specs.Lists.{pick};
 ghost use Rattle.abelian.specs.Words.{vector};

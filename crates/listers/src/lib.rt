@@ -1,5 +1,7 @@
 // The two listers of Abelian periods, and their counts. Each goes through a board of the pairs in range, and writes or counts those that
 // are left open; the two listers differ in the pairs that they try.
+#![tactic(auto)]
+
 pub mod candidates;
 mod lowest;
 mod passing;

@@ -2,6 +2,8 @@
 // function returns the answer's numbers as a struct (a fresh tracker has none), promises what the call promises, by the same definitions, and asks
 // nothing of the caller. Here are the calls on a word, on a pattern and a record, and on an alphabet and a length, but the counts, which are in counts.rt; the tracker's
 // are in fields.rt.
+#![tactic(auto)]
+
 mod counts;
 mod fields;
 mod numbers;

@@ -1,4 +1,6 @@
 // Patterns without a repeat (C-20): every word over the first letters, of one length, that has no Abelian square, in alphabetical order.
+#![tactic(auto)]
+
 mod search;
 
 ghost use Rattle.std.specs.Prelude.{◌≡◌, ◌≤◌, length};

@@ -1,4 +1,6 @@
 // Abelian periods of a word by its prefix counts: the test that the listers and the tracker make of each pair.
+#![tactic(auto)]
+
 ghost use Rattle.std.specs.Prelude.{◌≡◌, T, length};
 ghost use Rattle.abelian.specs.Periods.{pair, in_range, is_period};
 ghost use Rattle.words.specs.Prefixes.{Counted};

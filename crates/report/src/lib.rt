@@ -1,5 +1,7 @@
 // The report of a word: one word of kind 8, then its full periods, its Abelian periods and its squares. Where the slice may be too short,
 // the whole is counted before the first place is written, so that a refusal leaves the slice as it came.
+#![tactic(auto)]
+
 mod answers;
 mod parts;
 

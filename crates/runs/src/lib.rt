@@ -1,6 +1,8 @@
 // Abelian runs of a word (document 003, as C-11 has them): whole blocks side by side with equal count vectors, as far as these go on, and on both sides
 // the longest stretch that is contained in a block. A run is a chain of squares, each one block behind the one before it, so that it is read off the marks of
 // the squares. The words of all runs are counted first, so that a list that is too long is refused before the first place of the slice is written.
+#![tactic(auto)]
+
 mod hands;
 mod output;
 mod starts;

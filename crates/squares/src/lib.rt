@@ -1,6 +1,8 @@
 // Abelian squares of a word (document 003): two parts side by side with equal count vectors. A candidate is a half length with a
 // start; each candidate is compared once and marked, so that a list that is too long is refused before the first place of the slice
 // is written.
+#![tactic(auto)]
+
 pub mod marks;
 mod output;
 

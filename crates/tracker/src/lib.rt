@@ -1,6 +1,8 @@
 // The tracker's calls by value: a fresh tracker, and five calls that take the tracker and return it as the call leaves it, beside the answer; a
 // refused call returns it as it came. An add, a take-back and a clear take the tracker apart, make the call in place on its fields, and build it
 // again; a list and a count lend the fields for reading. The contracts hold of every tracker, also of one that no calls have made.
+#![tactic(auto)]
+
 pub mod in_place;
 mod letters;
 

@@ -1,6 +1,8 @@
 // Anagram windows (C-13): where in a long record a window as long as a pattern has the pattern's count vector, so that it is the pattern with its letters in
 // some order. The window slides one event at a time. A slice with a place for each event is written at once; for a shorter one the windows are counted first, so
 // that a list that is too long is refused before the first place is written.
+#![tactic(auto)]
+
 mod sliding;
 
 ghost use Rattle.std.specs.Prelude.{◌≡◌, ◌≤◌, length};

@@ -1,5 +1,7 @@
 // Words: the check of a word, the counts of its letters, and the table of the counts of its prefixes. A word, and any part of one, is
 // a slice of bytes.
+#![tactic(auto)]
+
 pub mod parts;
 
 ghost use Rattle.std.specs.Prelude.{◌≡◌, false, suc, ◌≤◌, T, length};

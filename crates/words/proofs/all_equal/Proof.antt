@@ -20,10 +20,10 @@ use Rattle.words.proofs.all_equal.Tie as tie
 abbrev equal_from : List ℕ → ℕ → Bool
 equal_from w i = all (λ (x : ℕ). eqb x (get_or w 0 0)) (drop i w)
 
-abbrev invariant-loop : tie.invariant-loop
+abbrev invariant-loop : tie.invariant-loop-i
 invariant-loop word i₀ i = (i ≤ length word) × (all_equal word ≡ equal_from word i)
 
-abbrev decreases-loop : tie.decreases-loop
+abbrev decreases-loop : tie.decreases-loop-i
 decreases-loop word i₀ i = length word - i
 
 module _ (w : List ℕ) (i : ℕ) where
@@ -39,41 +39,41 @@ module _ (w : List ℕ) (i : ℕ) where
   all_passed_lem : length w ≤ i → equal_from w i ≡ true
   all_passed_lem h = rw (drop_of_length-le w h)
 
-loop-holds : tie.Need-loop-init invariant-loop decreases-loop
+loop-holds : tie.Need-loop-i-init invariant-loop decreases-loop
 unfolding all_equal
 loop-holds c = search rules
 
-shared-slice-read-if1 : tie.Need-shared-slice-read-if1 invariant-loop decreases-loop
+shared-slice-read-if1 : tie.Need-bounds-word-i invariant-loop decreases-loop
 shared-slice-read-if1 c = search rules
 
-shared-slice-read-if1-2 : tie.Need-shared-slice-read-if1-2 invariant-loop decreases-loop
+shared-slice-read-if1-2 : tie.Need-bounds-word-0 invariant-loop decreases-loop
 shared-slice-read-if1-2 c = search rules
 
-returns : tie.Need-returns invariant-loop decreases-loop
+returns : tie.Need-returns-then-word-i invariant-loop decreases-loop
 returns c =
     let at-loop = c.before.before.before.before in
     let word = at-loop.before.args.word.now in
-    sym (at-loop.loop.invariant.1 ∙ differs-here word at-loop.loop.i (omega arith) (ne_eqb _ _ c.if1.true))
+    sym (at-loop.loop-i.invariant.1 ∙ differs-here word at-loop.loop-i.i (omega arith) (ne_eqb _ _ c.if-word-i.true))
 
-add-i : tie.Need-overflow-add-i invariant-loop decreases-loop
+add-i : tie.Need-overflow_add-i invariant-loop decreases-loop
 add-i c = search rules
 
-loop-less : tie.Need-loop-smaller invariant-loop decreases-loop
+loop-less : tie.Need-loop-i-smaller invariant-loop decreases-loop
 loop-less c = search rules
 
-loop-again : tie.Need-loop-preserved invariant-loop decreases-loop
+loop-again : tie.Need-loop-i-preserved invariant-loop decreases-loop
 loop-again c =
     let at-loop = c.before.before.before.before in
     let word = at-loop.before.args.word.now in
-    (omega arith, at-loop.loop.invariant.1 ∙ equal-later word at-loop.loop.i (omega arith) (eq-eqb _ _ c.if1.false))
+    (omega arith, at-loop.loop-i.invariant.1 ∙ equal-later word at-loop.loop-i.i (omega arith) (eq-eqb _ _ c.if-word-i.false))
 
-returns-2 : tie.Need-returns-2 invariant-loop decreases-loop
+returns-2 : tie.Need-returns invariant-loop decreases-loop
 returns-2 c =
     let at-loop = c.before in
-    sym (at-loop.loop.invariant.1 ∙ all_passed_lem at-loop.before.args.word.now at-loop.loop.i (omega arith))
+    sym (at-loop.loop-i.invariant.1 ∙ all_passed_lem at-loop.before.args.word.now at-loop.loop-i.i (omega arith))
 
-pub all-equal-spec : {M : Type 1} → statement M
-all-equal-spec =
+pub all_equal_spec : {M : Type 1} → statement M
+all_equal_spec =
     tie.close
     (tie.spec
     invariant-loop

@@ -16,10 +16,10 @@ use Rattle.abelian.proofs.Counts.{letters_inside, letters_left, letters_last}
 use Rattle.words.proofs.all_letters.Statement.{statement}
 use Rattle.words.proofs.all_letters.Tie as tie
 
-abbrev invariant-loop : tie.invariant-loop
+abbrev invariant-loop : tie.invariant-loop-i
 invariant-loop stretch all₀ i₀ all i = (i ≤ length stretch) × (all ≡ of_letters (take i stretch))
 
-abbrev decreases-loop : tie.decreases-loop
+abbrev decreases-loop : tie.decreases-loop-i
 decreases-loop stretch all₀ i₀ all i = length stretch - i
 
 -- one byte more
@@ -32,35 +32,35 @@ letters-more w i h =
     (λ t. letters_last u x (left (of_letters u) (is_letter alphabet_size x) t) (right (of_letters u) (is_letter alphabet_size x) t))
     (λ t. both (of_letters u) (is_letter alphabet_size x) (letters_left u (x ∷ []) t) (letters_inside (u ++ (x ∷ [])) t x (Memᴰ.append_right u (Memᴰ.head refl)))))
 
-loop-holds : tie.Need-loop-init invariant-loop decreases-loop
+loop-holds : tie.Need-loop-i-init invariant-loop decreases-loop
 unfolding of_letters first_outside outside_from
 loop-holds c = (omega arith, refl)
 
-shared-slice-read-is-letter : tie.Need-shared-slice-read-is-letter invariant-loop decreases-loop
+shared-slice-read-is-letter : tie.Need-bounds-stretch-i invariant-loop decreases-loop
 shared-slice-read-is-letter c = search rules
 
-is-letter-requires : tie.Need-is-letter-requires invariant-loop decreases-loop
+is-letter-requires : tie.Need-is_letter-all-requires invariant-loop decreases-loop
 is-letter-requires c κs = search rules
 
-add-i : tie.Need-overflow-add-i invariant-loop decreases-loop
+add-i : tie.Need-overflow_add-i invariant-loop decreases-loop
 add-i c = search rules
 
-loop-less : tie.Need-loop-smaller invariant-loop decreases-loop
+loop-less : tie.Need-loop-i-smaller invariant-loop decreases-loop
 loop-less c = search rules
 
-loop-again : tie.Need-loop-preserved invariant-loop decreases-loop
+loop-again : tie.Need-loop-i-preserved invariant-loop decreases-loop
 loop-again c =
     let at-loop = c.before.before.before in
     let stretch = at-loop.before.before.args.stretch.now in
-    (omega arith, ap₂ ◌&&◌ at-loop.loop.invariant.1 c.is-letter.ensures ∙ letters-more stretch at-loop.loop.i (omega arith))
+    (omega arith, ap₂ ◌&&◌ at-loop.loop-i.invariant.1 c.is_letter-all.ensures ∙ letters-more stretch at-loop.loop-i.i (omega arith))
 
 returns : tie.Need-returns invariant-loop decreases-loop
 returns c =
     let at-loop = c.before in
-    at-loop.loop.invariant.1 ∙ ap of_letters (take_all at-loop.loop.i at-loop.before.before.args.stretch.now (omega arith))
+    at-loop.loop-i.invariant.1 ∙ ap of_letters (take_all at-loop.loop-i.i at-loop.before.before.args.stretch.now (omega arith))
 
-pub all-letters-spec : {M : Type 1} → statement M
-all-letters-spec =
+pub all_letters_spec : {M : Type 1} → statement M
+all_letters_spec =
     tie.close
     (tie.spec
     invariant-loop

@@ -14,10 +14,10 @@ use Rattle.abelian.specs.Words.{alphabet_size, is_letter, outside_from, first_ou
 use Rattle.words.proofs.first_outside.Statement.{statement}
 use Rattle.words.proofs.first_outside.Tie as tie
 
-abbrev invariant-loop : tie.invariant-loop
+abbrev invariant-loop : tie.invariant-loop-i
 invariant-loop bytes i₀ i = (i ≤ length bytes) × (first_outside alphabet_size bytes ≡ outside_from alphabet_size (suc i) (drop i bytes))
 
-abbrev decreases-loop : tie.decreases-loop
+abbrev decreases-loop : tie.decreases-loop-i
 decreases-loop bytes i₀ i = length bytes - i
 
 module _ (w : List ℕ) (i : ℕ) where
@@ -36,48 +36,48 @@ module _ (w : List ℕ) (i : ℕ) where
   unfolding outside_from
   outside-none h = rw (drop_of_length-le w h)
 
-loop-holds : tie.Need-loop-init invariant-loop decreases-loop
+loop-holds : tie.Need-loop-i-init invariant-loop decreases-loop
 unfolding first_outside
 loop-holds c = search rules
 
-shared-slice-read-is-letter : tie.Need-shared-slice-read-is-letter invariant-loop decreases-loop
+shared-slice-read-is-letter : tie.Need-bounds-bytes-i invariant-loop decreases-loop
 shared-slice-read-is-letter c = search rules
 
-is-letter-requires : tie.Need-is-letter-requires invariant-loop decreases-loop
+is-letter-requires : tie.Need-is_letter-requires invariant-loop decreases-loop
 is-letter-requires c κs = search rules
 
-add-result : tie.Need-overflow-add-result invariant-loop decreases-loop
+add-result : tie.Need-overflow_add-result invariant-loop decreases-loop
 add-result c = search rules
 
-returns : tie.Need-returns invariant-loop decreases-loop
+returns : tie.Need-returns-then-not-is_letter invariant-loop decreases-loop
 returns c =
     let at_call = c.before in
     let at-loop = at_call.before.before.before in
     let bytes = at-loop.before.before.args.bytes.now in
-    sym (at-loop.loop.invariant.1 ∙ outside-here bytes at-loop.loop.i (omega arith) (sym at_call.is-letter.ensures ∙ not-true _ c.if1.true))
+    sym (at-loop.loop-i.invariant.1 ∙ outside-here bytes at-loop.loop-i.i (omega arith) (sym at_call.is_letter.ensures ∙ c.if-not-is_letter.true))
 
-add-i : tie.Need-overflow-add-i invariant-loop decreases-loop
+add-i : tie.Need-overflow_add-i invariant-loop decreases-loop
 add-i c = search rules
 
-loop-less : tie.Need-loop-smaller invariant-loop decreases-loop
+loop-less : tie.Need-loop-i-smaller invariant-loop decreases-loop
 loop-less c = search rules
 
-loop-again : tie.Need-loop-preserved invariant-loop decreases-loop
+loop-again : tie.Need-loop-i-preserved invariant-loop decreases-loop
 loop-again c =
     let at_call = c.before in
     let at-loop = at_call.before.before.before in
     let bytes = at-loop.before.before.args.bytes.now in (
       omega arith,
-      at-loop.loop.invariant.1 ∙ outside-later bytes at-loop.loop.i (omega arith) (sym at_call.is-letter.ensures ∙ not-false _ c.if1.false),
+      at-loop.loop-i.invariant.1 ∙ outside-later bytes at-loop.loop-i.i (omega arith) (sym at_call.is_letter.ensures ∙ c.if-not-is_letter.false),
     )
 
-returns-2 : tie.Need-returns-2 invariant-loop decreases-loop
+returns-2 : tie.Need-returns invariant-loop decreases-loop
 returns-2 c =
     let at-loop = c.before in
-    sym (at-loop.loop.invariant.1 ∙ outside-none at-loop.before.before.args.bytes.now at-loop.loop.i (omega arith))
+    sym (at-loop.loop-i.invariant.1 ∙ outside-none at-loop.before.before.args.bytes.now at-loop.loop-i.i (omega arith))
 
-pub first-outside-spec : {M : Type 1} → statement M
-first-outside-spec =
+pub first_outside_spec : {M : Type 1} → statement M
+first_outside_spec =
     tie.close
     (tie.spec
     invariant-loop
