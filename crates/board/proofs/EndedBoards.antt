@@ -141,8 +141,8 @@ next_gone w old board board' tried live r s (suc m) long u l g e e' f =
     record {
       from = omega arith;
       to = omega arith;
-      few_tried = few_more tried r m g.few-tried (omega (arith, e, few_in_row w board (suc m) l u));
-      few_live = few_more live s m g.few-live (omega (arith, e', few_in_row w board' (suc m) l u));
+      few_tried = few_more tried r m g.few_tried (omega (arith, e, few_in_row w board (suc m) l u));
+      few_live = few_more live s m g.few_live (omega (arith, e', few_in_row w board' (suc m) l u));
       counted = rw d' (open_more (length w) old m tried r (rw d at g.counted) opened);
       left_open = rw d' (open_more (length w) (all_ended w old) m live s (rw d at g.left_open) left);
       ended = rw d' next;

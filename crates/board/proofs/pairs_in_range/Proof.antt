@@ -8,20 +8,20 @@ use borrow.Author.Rules.{rules}
 use Rattle.board.proofs.pairs_in_range.Statement.{statement}
 use Rattle.board.proofs.pairs_in_range.Tie as tie
 
-add-result : tie.Need-overflow-add-result
+add-result : tie.Need-overflow_add-result
 unfolding longest
 add-result c = search rules
 
-add-result-2 : tie.Need-overflow-add-result-2
+add-result-2 : tie.Need-overflow_add-result-2
 unfolding longest
 add-result-2 c = search rules
 
-mul-result : tie.Need-overflow-mul-result
+mul-result : tie.Need-overflow_mul-result
 unfolding longest
 mul-result c = product_fits _ _ (omega arith) (omega arith)
 
 returns : tie.Need-returns
 returns c = sym (pair-count _)
 
-pub pairs-in-range-spec : {M : Type 1} → statement M
-pairs-in-range-spec = tie.close (tie.spec add-result add-result-2 mul-result returns)
+pub pairs_in_range_spec : {M : Type 1} → statement M
+pairs_in_range_spec = tie.close (tie.spec add-result add-result-2 mul-result returns)

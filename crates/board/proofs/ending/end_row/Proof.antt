@@ -1,13 +1,11 @@
 -- `board::ending::end_row` meets its contract. The invariant of its loop: the row has been gone through up to the head h. The measure is what is
 -- left of the row. Assumes nothing.
 use mathlib.Core.Path.{◌≡◌, sym, ap, ap₂, ◌∙◌}
-use mathlib.Core.Logic.{⊎_elim}
 use mathlib.Core.List.{List}
 use Prim.Native.Nat.{ℕ, ◌+◌, ◌-◌, ◌≤◌, ◌<◌}
 use native.Mathlib.Omega.{arith}
 use lib.ListN.{length, get_or}
 use lib.Dec.{T}
-use borrow.Author.Tests.{not-true, not-false}
 use Rattle.abelian.specs.Words.{longest}
 use Rattle.abelian.specs.Periods.{pair, in_range}
 use Rattle.abelian.specs.Periods
@@ -21,21 +19,22 @@ use Rattle.board.proofs.EndedRows.{below, all_below, open_below, out_of_range_ke
 use borrow.Author.Rules.{rules}
 use Rattle.board.proofs.ending.end_row.Statement.{statement}
 use Rattle.board.proofs.ending.end_row.Tie as tie
+use Rattle.board.proofs.ending.end_row.Lts.{then-board-at-eq0+then-not-holds, then-board-at-eq0+else-not-holds, else-board-at-eq0}
 
-abbrev invariant-loop : tie.invariant-loop
+abbrev invariant-loop : tie.invariant-loop-h
 invariant-loop word counts period board₀ n start heads tried₀ ended₀ h₀ board tried ended h = (h ≤ heads) × RowGone word board₀ period.0 board tried ended h
 
-abbrev decreases-loop : tie.decreases-loop
+abbrev decreases-loop : tie.decreases-loop-h
 decreases-loop word counts period board₀ n start heads tried₀ ended₀ h₀ board tried ended h = heads - h
 
-row-start-requires : tie.Need-row-start-requires invariant-loop decreases-loop
+row-start-requires : tie.Need-row_start-start-requires invariant-loop decreases-loop
 row-start-requires c κs = omega (arith, c.before.requires.1.1, c.before.requires.0.short)
 
-row-heads-requires : tie.Need-row-heads-requires invariant-loop decreases-loop
+row-heads-requires : tie.Need-row_heads-heads-requires invariant-loop decreases-loop
 row-heads-requires c κs = omega (arith, c.before.before.requires.1.1, c.before.before.requires.0.short)
 
 -- what the calls before the loop say, and that the array has a board's length
-module _ (c : tie.After-row-heads invariant-loop decreases-loop) where
+module _ (c : tie.After-row_heads-heads invariant-loop decreases-loop) where
   abbrev start : tie.Start invariant-loop decreases-loop
   start = c.before.before.before
 
@@ -49,103 +48,102 @@ module _ (c : tie.After-row-heads invariant-loop decreases-loop) where
   board = start.args.board.now
 
   long : length board ≡ board_size
-  long = start.pre.1.0
+  long = start.requires.1.0
 
-  begins : c.before.row-start.result ≡ row_start p
-  begins = c.before.row-start.ensures
+  begins : c.before.row_start-start.result ≡ row_start p
+  begins = c.before.row_start-start.ensures
 
-  has : c.row-heads.result ≡ Periods.heads (length word) p
-  has = c.row-heads.ensures
+  has : c.row_heads-heads.result ≡ Periods.heads (length word) p
+  has = c.row_heads-heads.ensures
 
   on-board : row_start p + Periods.heads (length word) p ≤ board_size
-  on-board = row_end (length word) p start.pre.1.1.0 start.pre.1.1.1 start.pre.0.short
+  on-board = row_end (length word) p start.requires.1.1.0 start.requires.1.1.1 start.requires.0.short
 
   -- the place of a head of the row
-  place_at : (h : ℕ) → c.before.row-start.result + h ≡ place_of (pair h p)
+  place_at : (h : ℕ) → c.before.row_start-start.result + h ≡ place_of (pair h p)
   unfolding place_of
   place_at h = omega (arith, begins)
 
   -- a head of the row is in range
   in_row : (h : ℕ) → h < Periods.heads (length word) p → InRange (length word) (pair h p)
-  in_row h l = heads-in_range start.pre.1.1.0 start.pre.1.1.1 l
+  in_row h l = heads-in_range start.requires.1.1.0 start.requires.1.1.1 l
 
-loop-holds : tie.Need-loop-init invariant-loop decreases-loop
+loop-holds : tie.Need-loop-h-init invariant-loop decreases-loop
 loop-holds c = (omega arith, no_head_gone (word c) (board c) (p c) (long c))
 
-add_at : tie.Need-overflow-add-at invariant-loop decreases-loop
+add_at : tie.Need-overflow_add-at invariant-loop decreases-loop
 unfolding board_size
-add_at c = omega (arith, on-board c.before.before, begins c.before.before, has c.before.before, c.loop-test.true)
+add_at c = omega (arith, on-board c.before.before, begins c.before.before, has c.before.before, c.loop-h-test.true)
 
-element-copy-out-if1 : tie.Need-element-copy-out-if1 invariant-loop decreases-loop
+element-copy-out-if1 : tie.Need-bounds-board-at invariant-loop decreases-loop
 unfolding board_size
-element-copy-out-if1 c = omega (arith, on-board c.before.before, begins c.before.before, has c.before.before, c.loop-test.true)
+element-copy-out-if1 c = let r = c.before.before.before in omega (arith, on-board r, begins r, has r, c.loop-h-test.true)
 
-add-tried : tie.Need-overflow-add-tried invariant-loop decreases-loop
+add-tried : tie.Need-overflow_add-tried invariant-loop decreases-loop
 add-tried c = search rules
 
 holds-requires : tie.Need-holds-requires invariant-loop decreases-loop
 holds-requires c κs =
     let i = c.before.before in
-    let r = i.before.before in
-    ((start r).requires.0, range_in (length (word r)) (pair i.before.loop.h (p r)) (in_row r i.before.loop.h (omega (arith, has r, i.loop-test.true))))
+    let r = i.before.before.before in
+    ((start r).requires.0, range_in (length (word r)) (pair i.loop-h.h (p r)) (in_row r i.loop-h.h (omega (arith, has r, i.loop-h-test.true))))
 
-cast-board : tie.Need-overflow-cast-board invariant-loop decreases-loop
+cast-board : tie.Need-overflow_cast-board invariant-loop decreases-loop
 unfolding longest
-cast-board c = omega (arith, (start c.before.before.before.before.before.before).pre.0.short)
+cast-board c = omega (arith, (start c.before.before.before.before.before.before.before).requires.0.short)
 
-element-write-board : tie.Need-element-write-board invariant-loop decreases-loop
+element-write-board : tie.Need-bounds-board-at-then-not-holds invariant-loop decreases-loop
 unfolding board_size
-element-write-board c = let r = c.before.before.before.before.before.before in omega (arith, on-board r, begins r, has r, c.before.before.before.before.loop-test.true)
+element-write-board c = let r = c.before.before.before.before.before.before.before in omega (arith, on-board r, begins r, has r, c.loop-h-test.true)
 
-add-ended : tie.Need-overflow-add-ended invariant-loop decreases-loop
+add-ended : tie.Need-overflow_add-ended invariant-loop decreases-loop
 add-ended c = search rules
 
-add-h : tie.Need-overflow-add-h invariant-loop decreases-loop
+add-h : tie.Need-overflow_add-h invariant-loop decreases-loop
 add-h c = search rules
 
-loop-less : tie.Need-loop-smaller invariant-loop decreases-loop
+loop-less : tie.Need-loop-h-smaller invariant-loop decreases-loop
 loop-less c = search rules
 
-loop-again : tie.Need-loop-preserved invariant-loop decreases-loop
+loop-again : tie.Need-loop-h-preserved invariant-loop decreases-loop
 loop-again c =
     let i = c.before.before in
-    let r = i.before.before in
-    let h = i.before.loop.h in
+    let r = i.before.before.before in
+    let h = i.loop-h.h in
     let x = pair h (p r) in
-    let g = i.before.loop.invariant.1 in
-    let range : InRange (length (word r)) x = in_row r h (omega (arith, has r, i.loop-test.true)) in
+    let g = i.loop-h.invariant.1 in
+    let range : InRange (length (word r)) x = in_row r h (omega (arith, has r, i.loop-h-test.true)) in
     let inside : T (in_range longest x) = range_in longest x (in_range_longer range (start r).requires.0.short) in
-    let at : r.before.row-start.result + h ≡ place_of x = place_at r h in
-    let entry : get_or i.before.loop.board (r.before.row-start.result + h) 0 ≡ entry_at (board r) x =
-    ap (λ (k : ℕ). get_or i.before.loop.board k 0) at ∙ entry_read (word r) (board r) (p r) (long r) g range inside in (
-      omega (arith, i.loop-test.true),
-      ⊎_elim
-          (λ w. rw (w.3, w.4, w.5, at) (head_ended (word r) (board r) (p r) (long r) g range inside (sym entry ∙ w.0.taken) (sym w.1.ensures ∙ not-true _ w.2.taken)))
-          (⊎_elim
-          (λ w. rw (w.3, w.4, w.5) (head_live (word r) (board r) (p r) (long r) g range inside (sym entry ∙ w.0.taken) (sym w.1.ensures ∙ not-false _ w.2.left)))
-          (λ w. rw (w.1, w.2, w.3) (head_passed (word r) (board r) (p r) (long r) g range inside (λ z. w.0.left (entry ∙ z)))))
-          c.if1.branch,
+    let at : r.before.row_start-start.result + h ≡ place_of x = place_at r h in
+    let entry : get_or i.loop-h.board (r.before.row_start-start.result + h) 0 ≡ entry_at (board r) x =
+    ap (λ (k : ℕ). get_or i.loop-h.board k 0) at ∙ entry_read (word r) (board r) (p r) (long r) g range inside in (
+      omega (arith, i.loop-h-test.true),
+      elim c.if-board-at-eq0.branch [
+        | then-board-at-eq0+then-not-holds w ↦ rw (w.board-is, w.tried-is, w.ended-is, at) (head_ended (word r) (board r) (p r) (long r) g range inside (sym entry ∙ w.if-board-at-eq0.true) (sym w.holds.ensures ∙ w.if-not-holds.true))
+        | then-board-at-eq0+else-not-holds w ↦ rw (w.board-is, w.tried-is, w.ended-is) (head_live (word r) (board r) (p r) (long r) g range inside (sym entry ∙ w.if-board-at-eq0.true) (sym w.holds.ensures ∙ w.if-not-holds.false))
+        | else-board-at-eq0 w ↦ rw (w.board-is, w.tried-is, w.ended-is) (head_passed (word r) (board r) (p r) (long r) g range inside (λ z. w.if-board-at-eq0.false (entry ∙ z)))
+      ],
     )
 
-sub-live : tie.Need-overflow-sub-live invariant-loop decreases-loop
+sub-live : tie.Need-overflow_sub-live invariant-loop decreases-loop
 sub-live c = search rules
 
 returns : tie.Need-returns invariant-loop decreases-loop
 unfolding row_open row_ended Periods.row
 returns c =
     let r = c.before.before in
-    let g = c.before.loop.invariant.1 in
-    let e : c.before.loop.h ≡ Periods.heads (length (word r)) (p r) = omega (arith, has r) in
-    let row : c.before.loop.board ≡ row_ended (word r) (p r) (board r) =
+    let g = c.before.loop-h.invariant.1 in
+    let e : c.before.loop-h.h ≡ Periods.heads (length (word r)) (p r) = omega (arith, has r) in
+    let row : c.before.loop-h.board ≡ row_ended (word r) (p r) (board r) =
     g.gone ∙ ap (λ (k : ℕ). board_of (below (entry_added (word r)) (p r) k (board r))) e
     ∙ all_below (entry_added (word r)) (p r) (board r) (long r) (length (word r)) (out_of_range_kept (word r)) in
-    let left : c.before.loop.tried - c.before.loop.ended ≡ length (open_below (row_ended (word r) (p r) (board r)) (p r) c.before.loop.h) = omega (arith, g.left_open) in (
+    let left : c.before.loop-h.tried - c.before.loop-h.ended ≡ length (open_below (row_ended (word r) (p r) (board r)) (p r) c.before.loop-h.h) = omega (arith, g.left_open) in (
       g.counted ∙ ap (λ (k : ℕ). length (open_below (board r) (p r) k)) e,
       (left ∙ ap₂ (λ (b : List ℕ) (k : ℕ). length (open_below b (p r) k)) (sym row) e, row),
     )
 
-pub end-row-spec : {M : Type 1} → statement M
-end-row-spec =
+pub end_row_spec : {M : Type 1} → statement M
+end_row_spec =
     tie.close
     (tie.spec
     invariant-loop
