@@ -24,67 +24,67 @@ placed c =
     let b : (first_letter ≤ c.args.letter) × (c.args.letter < first_letter + alphabet_size) = letter_bounds alphabet_size c.args.letter c.requires.is_one in
     record { low = b.0; high = b.1; here = omega arith; there = omega arith }
 
-sub-place : tie.Need-overflow-sub-place
+sub-place : tie.Need-overflow_sub-place
 unfolding first_letter
 sub-place c = omega (arith, placed c)
 
-cast-place : tie.Need-overflow-cast-place
+cast-place : tie.Need-overflow_cast-place
 cast-place c = search rules
 
-element-copy-out-before : tie.Need-element-copy-out-before
+element-copy-out-before : tie.Need-bounds-counts-place
 unfolding first_letter alphabet_size
-element-copy-out-before c = omega (arith, placed c)
+element-copy-out-before c = omega (arith, placed c.before)
 
-add-after : tie.Need-overflow-add-after
+add-after : tie.Need-overflow_add-after
 unfolding first_letter longest
 add-after c = omega arith
 
-element-write-counts : tie.Need-element-write-counts
+element-write-counts : tie.Need-bounds-counts-place-2
 unfolding first_letter alphabet_size
-element-write-counts c = omega (arith, placed c.before)
+element-write-counts c = omega (arith, placed c.before.before)
 
-element-copy-out-unchanged : tie.Need-element-copy-out-unchanged
+element-copy-out-unchanged : tie.Need-bounds-other-place
 unfolding first_letter alphabet_size
-element-copy-out-unchanged c = omega (arith, placed c.before)
+element-copy-out-unchanged c = omega (arith, placed c.before.before.before)
 
-add-result : tie.Need-overflow-add-result
+add-result : tie.Need-overflow_add-result
 unfolding alphabet_size
 add-result c =
-    let s = c.before.before.before in
+    let s = c.before.before.before.before.before in
     omega (arith, differing-le-length s.args.counts.now s.args.other.now)
 
-returns : tie.Need-returns
+returns : tie.Need-returns-then-before-unchanged
 unfolding one_more first_letter
 returns c =
-    let s = c.before.before.before in
+    let s = c.before.before.before.before.before in
     let p : Placed s = placed s in
-    (refl, omega (arith, equal_parts s.args.counts.now s.args.other.now s.args.letter p.here p.there c.if1.true))
+    (refl, omega (arith, equal_parts s.args.counts.now s.args.other.now s.args.letter p.here p.there c.if-before-unchanged.true))
 
-sub-result : tie.Need-overflow-sub-result
+sub-result : tie.Need-overflow_sub-result
 unfolding first_letter
 sub-result c =
-    let s = c.before.before.before.before in
+    let s = c.before.before.before.before.before.before in
     let p : Placed s = placed s in
-    omega (arith, unequal_meets s.args.counts.now s.args.other.now s.args.letter p.here p.there c.if2.true)
+    omega (arith, unequal_meets s.args.counts.now s.args.other.now s.args.letter p.here p.there c.if-after-unchanged.true)
 
-returns-2 : tie.Need-returns-2
+returns-2 : tie.Need-returns-then-after-unchanged
 unfolding one_more first_letter
 returns-2 c =
-    let s = c.before.before.before.before in
+    let s = c.before.before.before.before.before.before in
     let p : Placed s = placed s in
-    (refl, omega (arith, unequal_meets s.args.counts.now s.args.other.now s.args.letter p.here p.there c.if2.true))
+    (refl, omega (arith, unequal_meets s.args.counts.now s.args.other.now s.args.letter p.here p.there c.if-after-unchanged.true))
 
-returns-3 : tie.Need-returns-3
+returns-3 : tie.Need-returns
 unfolding one_more first_letter
 returns-3 c =
-    let s = c.before.before.before.before in
+    let s = c.before.before.before.before.before.before in
     let p : Placed s = placed s in (
       refl,
-      omega (arith, unequal_stays s.args.counts.now s.args.other.now s.args.letter p.here p.there c.before.if1.false c.if2.false),
+      omega (arith, unequal_stays s.args.counts.now s.args.other.now s.args.letter p.here p.there c.before.if-before-unchanged.false c.if-after-unchanged.false),
     )
 
-pub count-letter-spec : {M : Type 1} → statement M
-count-letter-spec =
+pub count_letter_spec : {M : Type 1} → statement M
+count_letter_spec =
     tie.close
     (tie.spec
     sub-place

@@ -12,13 +12,13 @@ use Rattle.covers.proofs.Search.{Passed, can_count_first, can_count_last, passed
 use Rattle.covers.proofs.cover_length.Statement.{statement}
 use Rattle.covers.proofs.cover_length.Tie as tie
 
-abbrev invariant-loop : tie.invariant-loop
+abbrev invariant-loop : tie.invariant-loop-left
 invariant-loop word first₀ last₀ differ₀ found₀ left₀ right₀ first last differ found left right = Passed word first last differ found left right
 
-abbrev decreases-loop : tie.decreases-loop
+abbrev decreases-loop : tie.decreases-loop-left
 decreases-loop word first₀ last₀ differ₀ found₀ left₀ right₀ first last differ found left right = right - left
 
-loop-holds : tie.Need-loop-init invariant-loop decreases-loop
+loop-holds : tie.Need-loop-left-init invariant-loop decreases-loop
 unfolding smallest_from vector letters count differing
 loop-holds c =
     record {
@@ -30,71 +30,71 @@ loop-holds c =
       smallest = refl;
     }
 
-add-loop : tie.Need-overflow-add-loop invariant-loop decreases-loop
+add-loop : tie.Need-overflow_add-left invariant-loop decreases-loop
 add-loop c = search rules
 
-sub-right : tie.Need-overflow-sub-right invariant-loop decreases-loop
+sub-right : tie.Need-overflow_sub-right invariant-loop decreases-loop
 sub-right c = search rules
 
-shared-slice-read-count-letter : tie.Need-shared-slice-read-count-letter invariant-loop decreases-loop
+shared-slice-read-count-letter : tie.Need-bounds-word-left invariant-loop decreases-loop
 shared-slice-read-count-letter c = search rules
 
 -- two letters or more are between
-between : (turn : tie.In-loop invariant-loop decreases-loop) → turn.before.loop.left + 1 < turn.before.loop.right
+between : (turn : tie.In-loop-left invariant-loop decreases-loop) → turn.before.loop-left.left + 1 < turn.before.loop-left.right
 between turn = omega arith
 
-count-letter-requires : tie.Need-count-letter-requires invariant-loop decreases-loop
+count-letter-requires : tie.Need-count_letter-differ-requires invariant-loop decreases-loop
 count-letter-requires c κs =
     let turn = c.before.before.before in
     let start = turn.before.before.before in
-    can_count_first start.args.word.now start.requires.0 start.requires.1 turn.before.loop.invariant (between turn)
+    can_count_first start.args.word.now start.requires.0 start.requires.1 turn.before.loop-left.invariant (between turn)
 
-shared-slice-read-count-letter-2 : tie.Need-shared-slice-read-count-letter-2 invariant-loop decreases-loop
+shared-slice-read-count-letter-2 : tie.Need-bounds-word-right invariant-loop decreases-loop
 shared-slice-read-count-letter-2 c = search rules
 
-count-letter-requires-2 : tie.Need-count-letter-requires-2 invariant-loop decreases-loop
+count-letter-requires-2 : tie.Need-count_letter-differ-requires-in-loop-left invariant-loop decreases-loop
 count-letter-requires-2 c κs =
     let counted = c.before.before.before in
     let turn = counted.before.before.before.before in
     let start = turn.before.before.before in
-    can_count_last start.args.word.now start.requires.0 start.requires.1 turn.before.loop.invariant (between turn)
-    counted.count-letter.ensures.0 counted.count-letter.ensures.1
+    can_count_last start.args.word.now start.requires.0 start.requires.1 turn.before.loop-left.invariant (between turn)
+    counted.count_letter-differ.ensures.0 counted.count_letter-differ.ensures.1
 
-add_left : tie.Need-overflow-add-left invariant-loop decreases-loop
+add_left : tie.Need-overflow_add-left-in-loop-left invariant-loop decreases-loop
 add_left c = search rules
 
-loop-less : tie.Need-loop-smaller invariant-loop decreases-loop
+loop-less : tie.Need-loop-left-smaller-then-differ-eq0 invariant-loop decreases-loop
 loop-less c = search rules
 
-loop-again : tie.Need-loop-preserved invariant-loop decreases-loop
+loop-again : tie.Need-loop-left-preserved-then-differ-eq0 invariant-loop decreases-loop
 loop-again c =
     let both = c.before in
     let counted = both.before.before.before.before in
     let turn = counted.before.before.before.before in
     let start = turn.before.before.before in
-    passed_found start.args.word.now start.requires.0 start.requires.1 turn.before.loop.invariant (between turn)
-    counted.count-letter.ensures.0 counted.count-letter.ensures.1 both.count-letter2.ensures.0 both.count-letter2.ensures.1 c.if1.true (omega arith)
+    passed_found start.args.word.now start.requires.0 start.requires.1 turn.before.loop-left.invariant (between turn)
+    counted.count_letter-differ.ensures.0 counted.count_letter-differ.ensures.1 both.count_letter-differ-in-loop-left.ensures.0 both.count_letter-differ-in-loop-left.ensures.1 c.if-differ-eq0.true (omega arith)
 
-loop-less-2 : tie.Need-loop-smaller-2 invariant-loop decreases-loop
+loop-less-2 : tie.Need-loop-left-smaller invariant-loop decreases-loop
 loop-less-2 c = search rules
 
-loop-again-2 : tie.Need-loop-preserved-2 invariant-loop decreases-loop
+loop-again-2 : tie.Need-loop-left-preserved invariant-loop decreases-loop
 loop-again-2 c =
     let both = c.before in
     let counted = both.before.before.before.before in
     let turn = counted.before.before.before.before in
     let start = turn.before.before.before in
-    passed_on start.args.word.now start.requires.0 start.requires.1 turn.before.loop.invariant (between turn)
-    counted.count-letter.ensures.0 counted.count-letter.ensures.1 both.count-letter2.ensures.0 both.count-letter2.ensures.1 c.if1.false
+    passed_on start.args.word.now start.requires.0 start.requires.1 turn.before.loop-left.invariant (between turn)
+    counted.count_letter-differ.ensures.0 counted.count_letter-differ.ensures.1 both.count_letter-differ-in-loop-left.ensures.0 both.count_letter-differ-in-loop-left.ensures.1 c.if-differ-eq0.false
 
 returns : tie.Need-returns invariant-loop decreases-loop
 returns c =
-    let l = c.before.loop in
+    let l = c.before.loop-left in
     l.invariant.smallest
     ∙ smallest_whole c.before.before.before.args.word.now l.left l.right l.invariant.parts l.invariant.order (omega arith)
 
-pub cover-length-spec : {M : Type 1} → statement M
-cover-length-spec =
+pub cover_length_spec : {M : Type 1} → statement M
+cover_length_spec =
     tie.close
     (tie.spec
     invariant-loop

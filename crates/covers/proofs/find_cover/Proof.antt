@@ -9,45 +9,45 @@ use Rattle.covers.proofs.Answers.{answer_refused, answer_nothing, answer_length}
 use Rattle.covers.proofs.find_cover.Statement.{statement}
 use Rattle.covers.proofs.find_cover.Tie as tie
 
-check-word-requires : tie.Need-check-word-requires
+check-word-requires : tie.Need-check_word-requires
 check-word-requires c κs = search rules
 
-enum-known-refusal : tie.Need-enum-known-refusal
+enum-known-refusal : tie.Need-enum_known-refusal
 enum-known-refusal c = search rules
 
-enum_told : tie.Need-enum-told
+enum_told : tie.Need-enum_told-1
 enum_told c = search rules
 
 -- where `check_word` has accepted, the word has no refusal
-accepted : (c : tie.After-enum-told) → word_refusal c.before.before.before.before.args.word.now false 0 0 ≡ none
+accepted : (c : tie.In-Accepted) → word_refusal c.args.word.now false 0 0 ≡ none
 accepted c =
-    accepted_none (word_refusal c.before.before.before.before.args.word.now false 0 0)
-    (sym c.before.before.check-word.ensures ∙ c.enum_told.given.1)
+    accepted_none (word_refusal c.args.word.now false 0 0)
+    (sym c.check_word.ensures ∙ c.in-Accepted.is)
 
-cover-length-requires : tie.Need-cover-length-requires
+cover-length-requires : tie.Need-cover_length-m-requires
 cover-length-requires c κs =
-    let word = c.before.before.before.before.args.word.now in
+    let word = c.args.word.now in
     (accepted_letters word (accepted c), accepted_length word (accepted c))
 
-returns : tie.Need-returns
+returns : tie.Need-returns-in-Refused
 returns c =
-    let word = c.before.before.before.before.before.args.word.now in
-    let r = c.before.refusal.given.0.0 in
+    let word = c.args.word.now in
+    let r = c.in-Refused.refusal in
     answer_refused word r
-    (refused_some (word_refusal word false 0 0) r (sym c.before.before.before.check-word.ensures ∙ c.before.refusal.given.1))
+    (refused_some (word_refusal word false 0 0) r (sym c.check_word.ensures ∙ c.in-Refused.is))
 
-returns-2 : tie.Need-returns-2
+returns-2 : tie.Need-returns-then-m-eq0
 returns-2 c =
     let called = c.before.before in
-    answer_nothing called.before.before.before.before.args.word.now (accepted called) (sym c.before.cover-length.ensures ∙ c.if1.true)
+    answer_nothing called.args.word.now (accepted called) (sym c.cover_length-m.ensures ∙ c.if-m-eq0.true)
 
-returns-3 : tie.Need-returns-3
+returns-3 : tie.Need-returns-else-m-eq0
 returns-3 c =
     let called = c.before.before in
-    answer_length called.before.before.before.before.args.word.now (accepted called) c.before.cover-length.ensures c.if1.false
+    answer_length called.args.word.now (accepted called) c.cover_length-m.ensures c.if-m-eq0.false
 
-pub find-cover-spec : {M : Type 1} → statement M
-find-cover-spec =
+pub find_cover_spec : {M : Type 1} → statement M
+find_cover_spec =
     tie.close
     (tie.spec
     check-word-requires
