@@ -22,87 +22,83 @@ use Rattle.squares.proofs.list_squares.Statement.{statement}
 use Rattle.squares.proofs.list_squares.Tie as tie
 
 -- what is known once the word is accepted
-module _ (c : tie.After-enum-told) where
-  abbrev start : tie.Start
-  start = c.before.before.before.before.before
-
+module _ (c : tie.In_default) where
   abbrev w : List ℕ
-  w = start.args.word.now
+  w = c.args.word.now
 
   abbrev out : List ℕ
-  out = start.args.out.now
+  out = c.args.out.now
 
   accepted : word_refusal w false 0 0 ≡ none
-  accepted = accepted_none (word_refusal w false 0 0) (sym c.before.before.check-word.ensures ∙ c.enum_told.given.1)
+  accepted = accepted_none (word_refusal w false 0 0) (sym c.check_word.ensures ∙ c.in_default.is)
 
-check-word-requires : tie.Need-check-word-requires
+check-word-requires : tie.Need-check_word-requires
 check-word-requires c κs = search rules
 
-enum-known-refusal : tie.Need-enum-known-refusal
+enum-known-refusal : tie.Need-enum_known-refusal
 enum-known-refusal c = search rules
 
-returns : tie.Need-returns
+returns : tie.Need-returns-in-Refused
 unfolding square_listing
 returns c =
-    let at-start = c.before.before.before.before.before.before in
-    let word = at-start.args.word.now in
+    let word = c.args.word.now in
     sym
-    (listing_refused word at-start.args.out.now (square_words word) 0 0 0
-    (refused_some (word_refusal word false 0 0) c.before.refusal.given.0.0 (sym c.before.before.before.check-word.ensures ∙ c.before.refusal.given.1)))
+    (listing_refused word c.args.out.now (square_words word) 0 0 0
+    (refused_some (word_refusal word false 0 0) c.in-Refused.refusal (sym c.check_word.ensures ∙ c.in-Refused.is)))
 
-enum_told : tie.Need-enum-told
+enum_told : tie.Need-enum_told-1
 enum_told c = search rules
 
-count-prefixes-requires : tie.Need-count-prefixes-requires
+count-prefixes-requires : tie.Need-count_prefixes-requires
 unfolding longest
 count-prefixes-requires c κs = let told = c.before in (accepted_letters (w told) (accepted told), (accepted_length (w told) (accepted told), refl))
 
-slice-aggregate-mark-squares : tie.Need-slice-aggregate-mark-squares
+slice-aggregate-mark-squares : tie.Need-slice_bounds-mark_squares-end
 slice-aggregate-mark-squares c = search rules
 
-mark-squares-requires : tie.Need-mark-squares-requires
+mark-squares-requires : tie.Need-mark_squares-needed-requires
 unfolding longest
 mark-squares-requires c κs =
     let told = c.before.before.before.before in (
-      record { all = accepted_letters (w told) (accepted told); short = accepted_length (w told) (accepted told); rows = c.before.before.count-prefixes.ensures },
+      record { all = accepted_letters (w told) (accepted told); short = accepted_length (w told) (accepted told); rows = c.before.before.count_prefixes.ensures },
       candidates_bound (w told) (accepted_length (w told) (accepted told)),
     )
 
-returns-2 : tie.Need-returns-2
+returns-2 : tie.Need-returns-then-needed-out
 unfolding square_listing
 returns-2 c =
     let told = c.before.before.before.before.before.before.before in
-    let call = c.before.before.mark-squares in
-    counted_short (w told) (out told) (square_words (w told)) 0 0 0 (accepted told) call.result call.ensures.0 c.if1.true
+    let call = c.before.before.mark_squares-needed in
+    counted_short (w told) (out told) (square_words (w told)) 0 0 0 (accepted told) call.result call.ensures.0 c.if-needed-out.true
 
-slice-aggregate-write-squares : tie.Need-slice-aggregate-write-squares
+slice-aggregate-write-squares : tie.Need-slice_bounds-write_squares-end
 slice-aggregate-write-squares c = search rules
 
-write-squares-requires : tie.Need-write-squares-requires
+write-squares-requires : tie.Need-write_squares-requires
 write-squares-requires c κs =
     let marked = c.before.before.before.before in
     let told = marked.before.before.before.before.before in (
       accepted_length (w told) (accepted told),
       (
-        ap (take (length (square_marks (w told)))) marked.mark-squares.ensures.1 ∙ take-fill (square_marks (w told)) _,
-        omega (arith, marked.mark-squares.ensures.0, c.before.before.if1.false),
+        ap (take (length (square_marks (w told)))) marked.mark_squares-needed.ensures.1 ∙ take-fill (square_marks (w told)) _,
+        omega (arith, marked.mark_squares-needed.ensures.0, c.before.before.if-needed-out.false),
       ),
     )
 
-same_length : tie.Need-same-length
+same_length : tie.Need-shape_of-out
 same_length c = search rules
 
-returns-3 : tie.Need-returns-3
+returns-3 : tie.Need-returns
 unfolding square_listing
 returns-3 c =
     let marked = c.before.before.before.before.before.before.before in
     let told = marked.before.before.before.before.before in
-    ap (writing marked.mark-squares.result 0 0 0) c.before.before.write-squares.ensures
-    ∙ counted_written (w told) (out told) (square_words (w told)) 0 0 0 (accepted told) marked.mark-squares.result marked.mark-squares.ensures.0
-    c.before.before.before.before.before.if1.false
+    ap (writing marked.mark_squares-needed.result 0 0 0) c.before.before.write_squares.ensures
+    ∙ counted_written (w told) (out told) (square_words (w told)) 0 0 0 (accepted told) marked.mark_squares-needed.result marked.mark_squares-needed.ensures.0
+    c.before.before.before.before.before.if-needed-out.false
 
-pub list-squares-spec : {M : Type 1} → statement M
-list-squares-spec =
+pub list_squares_spec : {M : Type 1} → statement M
+list_squares_spec =
     tie.close
     (tie.spec
     check-word-requires

@@ -5,14 +5,14 @@ use Rattle.squares.proofs.Candidates.{candidates_bound}
 use Rattle.squares.proofs.number_of_squares.Statement.{statement}
 use Rattle.squares.proofs.number_of_squares.Tie as tie
 
-count-prefixes-requires : tie.Need-count-prefixes-requires
+count-prefixes-requires : tie.Need-count_prefixes-requires
 unfolding longest
 count-prefixes-requires c κs = search rules
 
-slice-aggregate-mark-squares : tie.Need-slice-aggregate-mark-squares
+slice-aggregate-mark-squares : tie.Need-slice_bounds-mark_squares-end
 slice-aggregate-mark-squares c = search rules
 
-mark-squares-requires : tie.Need-mark-squares-requires
+mark-squares-requires : tie.Need-mark_squares-requires
 unfolding longest
 mark-squares-requires c κs =
     let start = c.before.before.before.before.before in
@@ -21,5 +21,5 @@ mark-squares-requires c κs =
 returns : tie.Need-returns
 returns c = search rules
 
-pub number-of-squares-spec : {M : Type 1} → statement M
-number-of-squares-spec = tie.close (tie.spec count-prefixes-requires slice-aggregate-mark-squares mark-squares-requires returns)
+pub number_of_squares_spec : {M : Type 1} → statement M
+number_of_squares_spec = tie.close (tie.spec count-prefixes-requires slice-aggregate-mark-squares mark-squares-requires returns)

@@ -26,14 +26,14 @@ record Writing (w before out : List ℕ) (from at q : ℕ) : Type 0 where
   few : at ≤ from
   written : out ≡ fill (words_below w q) before
 
-abbrev invariant-loop : tie.invariant-loop
+abbrev invariant-loop : tie.invariant-loop-half
 invariant-loop word marks out₀ from₀ at₀ half₀ out from at half = Writing word out₀ out from at half
 
-abbrev decreases-loop : tie.decreases-loop
+abbrev decreases-loop : tie.decreases-loop-half
 decreases-loop word marks out₀ from₀ at₀ half₀ out from at half = length word + 1 - half
 
 -- what is known in the loop
-module _ (c : tie.In-loop invariant-loop decreases-loop) where
+module _ (c : tie.In-loop-half invariant-loop decreases-loop) where
   abbrev start : tie.Start invariant-loop decreases-loop
   start = c.before.before.before.before.before
 
@@ -44,142 +44,142 @@ module _ (c : tie.In-loop invariant-loop decreases-loop) where
   marks = start.args.marks.now
 
   abbrev q : ℕ
-  q = c.before.loop.half
+  q = c.before.loop-half.half
 
   abbrev from : ℕ
-  from = c.before.loop.from
+  from = c.before.loop-half.from
 
   abbrev at : ℕ
-  at = c.before.loop.at
+  at = c.before.loop-half.at
 
-  abbrev inv : Writing w start.args.out.now c.before.loop.out from at q
-  inv = c.before.loop.invariant
+  abbrev inv : Writing w start.args.out.now c.before.loop-half.out from at q
+  inv = c.before.loop-half.invariant
 
   -- the marks of this half length are among those of the slice
   marks-left : from + (suc (length w) - 2 * q) ≤ length marks
-  marks-left = marks-within w q inv.positive c.loop-test.true marks start.pre.1.0 from inv.read
+  marks-left = marks-within w q inv.positive c.loop-half-test.true marks start.requires.1.0 from inv.read
 
   -- its words have places
-  places-left : at + length (square_starts w q) ≤ length c.before.loop.out
-  places-left = omega (arith, inv.reached, inv.size, words_fit w q inv.positive c.loop-test.true, start.pre.1.1)
+  places-left : at + length (square_starts w q) ≤ length c.before.loop-half.out
+  places-left = omega (arith, inv.reached, inv.size, words_fit w q inv.positive c.loop-half-test.true, start.requires.1.1)
 
   -- the words are few
   small : from + (suc (length w) - 2 * q) ≤ (longest / 2) * (longest / 2)
-  small = omega (arith, inv.read, marks_fit w q inv.positive c.loop-test.true, candidates_bound w start.pre.0)
+  small = omega (arith, inv.read, marks_fit w q inv.positive c.loop-half-test.true, candidates_bound w start.requires.0)
 
   -- the part that is lent has the marks of this half length
   lent : take (from + (length w + 1 - 2 * q) - from) (drop from marks) ≡ start_marks w q
-  lent = marks_lent w q inv.positive c.loop-test.true marks start.pre.1.0 from inv.read
+  lent = marks_lent w q inv.positive c.loop-half-test.true marks start.requires.1.0 from inv.read
 
   marked : marked_starts (take (from + (length w + 1 - 2 * q) - from) (drop from marks)) ≡ square_starts w q
   marked = ap marked_starts lent ∙ marked-square_starts w q
 
-loop-holds : tie.Need-loop-init invariant-loop decreases-loop
+loop-holds : tie.Need-loop-half-init invariant-loop decreases-loop
 unfolding fill
 loop-holds c = record { positive = omega arith; within = omega arith; size = refl; read = refl; reached = refl; few = omega arith; written = refl }
 
-mul-loop : tie.Need-overflow-mul-loop invariant-loop decreases-loop
+mul-loop : tie.Need-overflow_mul-half invariant-loop decreases-loop
 unfolding longest
 mul-loop c = search rules
 
-add-to : tie.Need-overflow-add-to invariant-loop decreases-loop
+add-to : tie.Need-overflow_add-to invariant-loop decreases-loop
 add-to c = search rules
 
-mul-to : tie.Need-overflow-mul-to invariant-loop decreases-loop
+mul-to : tie.Need-overflow_mul-to invariant-loop decreases-loop
 mul-to c = search rules
 
-sub-to : tie.Need-overflow-sub-to invariant-loop decreases-loop
+sub-to : tie.Need-overflow_sub-to invariant-loop decreases-loop
 sub-to c = search rules
 
-add-to-2 : tie.Need-overflow-add-to-2 invariant-loop decreases-loop
+add-to-2 : tie.Need-overflow_add-to-in-loop-half invariant-loop decreases-loop
 unfolding longest
 add-to-2 c = omega (arith, small c)
 
-sub-write-starts : tie.Need-overflow-sub-write-starts invariant-loop decreases-loop
+sub-write-starts : tie.Need-slice_bounds-write_starts-count invariant-loop decreases-loop
 sub-write-starts c = search rules
 
-part-write-starts-start : tie.Need-slice-bounds-write-starts-start invariant-loop decreases-loop
+part-write-starts-start : tie.Need-slice_bounds-write_starts-start invariant-loop decreases-loop
 part-write-starts-start c = search rules
 
-part-write-starts-end : tie.Need-slice-bounds-write-starts-end invariant-loop decreases-loop
+part-write-starts-end : tie.Need-slice_bounds-write_starts-end invariant-loop decreases-loop
 part-write-starts-end c = omega (arith, marks-left c)
 
-mul-write-starts : tie.Need-overflow-mul-write-starts invariant-loop decreases-loop
+mul-write-starts : tie.Need-offset_bounds-out-at invariant-loop decreases-loop
 unfolding longest
 mul-write-starts c = omega (arith, small c.before, (inv c.before).few)
 
-sub-write-starts-2 : tie.Need-overflow-sub-write-starts-2 invariant-loop decreases-loop
+sub-write-starts-2 : tie.Need-slice_bounds-write_starts-count-in-loop-half invariant-loop decreases-loop
 sub-write-starts-2 c = omega (arith, places-left c.before)
 
-part-write-starts-start-2 : tie.Need-slice-bounds-write-starts-start-2 invariant-loop decreases-loop
+part-write-starts-start-2 : tie.Need-slice_bounds-write_starts-start-in-loop-half invariant-loop decreases-loop
 part-write-starts-start-2 c = omega (arith, places-left c.before)
 
-part-write-starts-end-2 : tie.Need-slice-bounds-write-starts-end-2 invariant-loop decreases-loop
+part-write-starts-end-2 : tie.Need-slice_bounds-write_starts-end-in-loop-half invariant-loop decreases-loop
 part-write-starts-end-2 c = search rules
 
-write-starts-requires : tie.Need-write-starts-requires invariant-loop decreases-loop
+write-starts-requires : tie.Need-write_starts-at-requires invariant-loop decreases-loop
 write-starts-requires c κs =
     let in-loop = c.before.before in
-    let out = in-loop.before.loop.out in
+    let out = in-loop.before.loop-half.out in
     let size : length (start_marks (w in-loop) (q in-loop)) ≡ suc (length (w in-loop)) - 2 * q in-loop = length-start_marks (w in-loop) (q in-loop) in (
-      omega (arith, in-loop.loop-test.true, (start in-loop).requires.0),
+      omega (arith, in-loop.loop-half-test.true, (start in-loop).requires.0),
       (
-        omega (arith, ap length (lent in-loop), size, (inv in-loop).positive, in-loop.loop-test.true, (start in-loop).requires.0),
+        omega (arith, ap length (lent in-loop), size, (inv in-loop).positive, in-loop.loop-half-test.true, (start in-loop).requires.0),
         omega (arith, ap length (marked in-loop), places-left in-loop, length-take (length out - at in-loop) (drop (at in-loop) out), length-drop (at in-loop) out),
       ),
     )
 
-add_at : tie.Need-overflow-add-at invariant-loop decreases-loop
+add_at : tie.Need-overflow_add-at invariant-loop decreases-loop
 unfolding longest
 add_at c =
     let in-loop = c.before.before.before.before.before in
-    omega (arith, small in-loop, (inv in-loop).few, c.before.before.write-starts.ensures.0, ap length (marked in-loop), fewer_words (w in-loop) (q in-loop), length-start_marks (w in-loop) (q in-loop))
+    omega (arith, small in-loop, (inv in-loop).few, c.before.before.write_starts-at.ensures.0, ap length (marked in-loop), fewer_words (w in-loop) (q in-loop), length-start_marks (w in-loop) (q in-loop))
 
-add_half : tie.Need-overflow-add-half invariant-loop decreases-loop
+add_half : tie.Need-overflow_add-half invariant-loop decreases-loop
 unfolding longest
 add_half c = search rules
 
-loop-less : tie.Need-loop-smaller invariant-loop decreases-loop
+loop-less : tie.Need-loop-half-smaller invariant-loop decreases-loop
 loop-less c = search rules
 
-loop-again : tie.Need-loop-preserved invariant-loop decreases-loop
+loop-again : tie.Need-loop-half-preserved invariant-loop decreases-loop
 loop-again c =
     let in-loop = c.before.before.before.before.before in
-    let call = c.before.before.write-starts in
+    let call = c.before.before.write_starts-at in
     let word = w in-loop in
     let half = q in-loop in
-    let out = in-loop.before.loop.out in
+    let out = in-loop.before.loop-half.out in
     let before : List ℕ = (start in-loop).args.out.now in
     let h : Writing word before out (from in-loop) (at in-loop) half = inv in-loop in
-    let more : words_below word (half + 1) ≡ words_below word half ++ half_words word half = words_more word half h.positive in-loop.loop-test.true in
+    let more : words_below word (half + 1) ≡ words_below word half ++ half_words word half = words_more word half h.positive in-loop.loop-half-test.true in
     let count : call.result ≡ length (square_starts word half) = call.ensures.0 ∙ ap length (marked in-loop) in
     let reached : at in-loop + call.result ≡ length (words_below word (half + 1)) =
     omega (arith, h.reached, count, ap length more, length-append (words_below word half) (half_words word half), length-map (square_starts word half) (square_word half)) in
-    let written : put_mid (at in-loop) (length out - at in-loop) out call.new.1.1.0 ≡ fill (words_below word (half + 1)) before =
-    fill_lent (words_below word half) (half_words word half) before out call.new.1.1.0 (at in-loop) h.written h.reached
+    let written : put_mid (at in-loop) (length out - at in-loop) out call.new.out ≡ fill (words_below word (half + 1)) before =
+    fill_lent (words_below word half) (half_words word half) before out call.new.out (at in-loop) h.written h.reached
     (call.ensures.1 ∙ ap (λ (l : List ℕ). fill (map (square_word half) l) (take (length out - at in-loop) (drop (at in-loop) out))) (marked in-loop))
     ∙ ap (λ (l : List ℕ). fill l before) (sym more) in
     record {
       positive = omega arith;
-      within = omega (arith, in-loop.loop-test.true);
+      within = omega (arith, in-loop.loop-half-test.true);
       size = ap length written ∙ length-fill (words_below word (half + 1)) before (omega (arith, places-left in-loop, h.size, reached, count));
-      read = omega (arith, h.read, length-marks-more word half h.positive in-loop.loop-test.true);
+      read = omega (arith, h.read, length-marks-more word half h.positive in-loop.loop-half-test.true);
       reached = reached;
       few = omega (arith, h.few, count, fewer_words word half, length-start_marks word half);
       written = written;
     }
 
-same_length : tie.Need-same-length invariant-loop decreases-loop
-same_length c = c.before.loop.invariant.size
+same_length : tie.Need-shape_of-out invariant-loop decreases-loop
+same_length c = c.before.loop-half.invariant.size
 
 returns : tie.Need-returns invariant-loop decreases-loop
 returns c =
     let at-loop = c.before in
-    let h = at-loop.loop.invariant in
-    h.written ∙ ap (λ (l : List ℕ). fill l at-loop.before.before.before.before.args.out.now) (all_words at-loop.before.before.before.before.args.word.now at-loop.loop.half h.within c.loop-test.false)
+    let h = at-loop.loop-half.invariant in
+    h.written ∙ ap (λ (l : List ℕ). fill l at-loop.before.before.before.before.args.out.now) (all_words at-loop.before.before.before.before.args.word.now at-loop.loop-half.half h.within c.loop-half-test.false)
 
-pub write-squares-spec : {M : Type 1} → statement M
-write-squares-spec =
+pub write_squares_spec : {M : Type 1} → statement M
+write_squares_spec =
     tie.close
     (tie.spec
     invariant-loop
