@@ -48,7 +48,7 @@ place_counted : (u : List ℕ) (x : ℕ) → first_letter ≤ x → x < first_le
 unfolding count
 place_counted u x low high =
     let p : first_letter + (x - first_letter) ≡ x = omega arith in
-    let v : get_or (vector (x ∷ u)) (x - first_letter) 0 ≡ count x (x ∷ u) = rw p at (vector_at (x ∷ u) (x - first_letter) (omega arith)) in
+    let v : get_or (vector (x ∷ u)) (x - first_letter) 0 ≡ count x (x ∷ u) = vector_at (x ∷ u) (x - first_letter) (omega arith) ∙ ap (λ (k : ℕ). count k (x ∷ u)) p in
     omega (arith, v, ap one (eq-eqb x x refl))
 
 module _ (w : List ℕ) (at rest : ℕ) {size : ℕ} (letters : T (of_letters w)) (room : at + rest < length w) (less : rest + 1 ≡ size) where

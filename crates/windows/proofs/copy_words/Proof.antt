@@ -11,10 +11,10 @@ record Copied (words before out : List ℕ) (i : ℕ) : Type 0 where
   size : length out ≡ length before
   written : out ≡ fill (take i words) before
 
-abbrev invariant-loop : tie.invariant-loop
+abbrev invariant-loop : tie.invariant-loop-i
 invariant-loop words out₀ i₀ out i = Copied words out₀ out i
 
-abbrev decreases-loop : tie.decreases-loop
+abbrev decreases-loop : tie.decreases-loop-i
 decreases-loop words out₀ i₀ out i = length words - i
 
 -- one word more
@@ -31,43 +31,43 @@ copied_more words before out i fits less h =
       written = written;
     }
 
-loop-holds : tie.Need-loop-init invariant-loop decreases-loop
+loop-holds : tie.Need-loop-i-init invariant-loop decreases-loop
 unfolding fill
 loop-holds c = record { within = omega arith; size = refl; written = refl }
 
-mul-out : tie.Need-overflow-mul-out invariant-loop decreases-loop
+mul-out : tie.Need-offset_bounds-words-i invariant-loop decreases-loop
 mul-out c = search rules
 
-shared-slice-read-out : tie.Need-shared-slice-read-out invariant-loop decreases-loop
+shared-slice-read-out : tie.Need-bounds-words-i invariant-loop decreases-loop
 shared-slice-read-out c = search rules
 
-mul-out-2 : tie.Need-overflow-mul-out-2 invariant-loop decreases-loop
+mul-out-2 : tie.Need-offset_bounds-out-i invariant-loop decreases-loop
 mul-out-2 c = search rules
 
-slice-write-out : tie.Need-slice-write-out invariant-loop decreases-loop
-slice-write-out c = omega (arith, c.before.before.loop.invariant.size, c.before.before.before.requires)
+slice-write-out : tie.Need-bounds-out-i invariant-loop decreases-loop
+slice-write-out c = omega (arith, c.before.before.loop-i.invariant.size, c.before.before.before.requires)
 
-add-i : tie.Need-overflow-add-i invariant-loop decreases-loop
+add-i : tie.Need-overflow_add-i invariant-loop decreases-loop
 add-i c = search rules
 
-loop-less : tie.Need-loop-smaller invariant-loop decreases-loop
+loop-less : tie.Need-loop-i-smaller invariant-loop decreases-loop
 loop-less c = search rules
 
-loop-again : tie.Need-loop-preserved invariant-loop decreases-loop
+loop-again : tie.Need-loop-i-preserved invariant-loop decreases-loop
 loop-again c =
     let at-loop = c.before.before in
-    copied_more at-loop.before.args.words.now at-loop.before.args.out.now at-loop.loop.out at-loop.loop.i at-loop.before.requires c.before.loop-test.true at-loop.loop.invariant
+    copied_more at-loop.before.args.words.now at-loop.before.args.out.now at-loop.loop-i.out at-loop.loop-i.i at-loop.before.requires c.before.loop-i-test.true at-loop.loop-i.invariant
 
-same_length : tie.Need-same-length invariant-loop decreases-loop
-same_length c = c.before.loop.invariant.size
+same_length : tie.Need-shape_of-out invariant-loop decreases-loop
+same_length c = c.before.loop-i.invariant.size
 
 returns : tie.Need-returns invariant-loop decreases-loop
 returns c =
     let at-loop = c.before in
-    at-loop.loop.invariant.written ∙ ap (λ (l : List ℕ). fill l at-loop.before.args.out.now) (take_all at-loop.loop.i at-loop.before.args.words.now c.loop-test.false)
+    at-loop.loop-i.invariant.written ∙ ap (λ (l : List ℕ). fill l at-loop.before.args.out.now) (take_all at-loop.loop-i.i at-loop.before.args.words.now c.loop-i-test.false)
 
-pub copy-words-spec : {M : Type 1} → statement M
-copy-words-spec =
+pub copy_words_spec : {M : Type 1} → statement M
+copy_words_spec =
     tie.close
     (tie.spec
     invariant-loop

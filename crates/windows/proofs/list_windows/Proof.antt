@@ -12,64 +12,61 @@ use Rattle.windows.proofs.list_windows.Statement.{statement}
 use Rattle.windows.proofs.list_windows.Tie as tie
 
 -- what is known once the pattern and the record are accepted
-module _ (c : tie.After-enum-told) where
-  abbrev start : tie.Start
-  start = c.before.before.before.before.before.before
-
+module _ (c : tie.In_default) where
   abbrev pattern : List ℕ
-  pattern = start.args.pattern.now
+  pattern = c.args.pattern.now
 
   abbrev events : List ℕ
-  events = start.args.«record».now
+  events = c.args.«record».now
 
   abbrev out : List ℕ
-  out = start.args.out.now
+  out = c.args.out.now
 
   accepted : window_refusal pattern events 0 0 ≡ none
-  accepted = accepted_none (window_refusal pattern events 0 0) (sym c.before.before.check_both.ensures ∙ c.enum_told.given.1)
+  accepted = accepted_none (window_refusal pattern events 0 0) (sym c.in_default.ensures)
 
-check-both-requires : tie.Need-check-both-requires
+check-both-requires : tie.Need-check_both-requires
 check-both-requires c κs = search rules
 
-enum-known-refusal : tie.Need-enum-known-refusal
+enum-known-refusal : tie.Need-enum_known-refusal
 enum-known-refusal c = search rules
 
-returns : tie.Need-returns
+returns : tie.Need-returns-in-Refused
 returns c =
-    let args = c.before.before.before.before.before.before.before.args in
-    let r = c.before.refusal.given.0.0 in
+    let args = c.args in
+    let r = c.in-Refused.refusal in
     list_refused args.pattern.now args.«record».now
-    (refused_some (window_refusal args.pattern.now args.«record».now 0 0) r (sym c.before.before.before.check_both.ensures ∙ c.before.refusal.given.1)) args.out.now
+    (refused_some (window_refusal args.pattern.now args.«record».now 0 0) r (sym c.in-Refused.ensures)) args.out.now
 
-enum_told : tie.Need-enum-told
+enum_told : tie.Need-enum_told-1
 enum_told c = search rules
 
-list-counted-requires : tie.Need-list-counted-requires
+list-counted-requires : tie.Need-list_counted-requires
 list-counted-requires c κs = accepted c.before.before
 
-same_length : tie.Need-same-length
+same_length : tie.Need-shape_of-out-then-out-record
 same_length c = search rules
 
-returns-2 : tie.Need-returns-2
+returns-2 : tie.Need-returns-then-out-record
 returns-2 c = search rules
 
-slide-requires : tie.Need-slide-requires
+slide-requires : tie.Need-slide-written-requires
 slide-requires c κs = let told = c.before.before in readable (pattern told) (events told) (accepted told)
 
-same-length-2 : tie.Need-same-length-2
+same-length-2 : tie.Need-shape_of-out
 same-length-2 c = search rules
 
-returns-3 : tie.Need-returns-3
+returns-3 : tie.Need-returns
 returns-3 c =
-    let call = c.before.before.slide in
+    let call = c.slide-written in
     let else = c.before.before.before.before in
     let told = else.before in
     let few = few_windows (pattern told) (events told) (readable (pattern told) (events told) (accepted told)).some in
-    ap (writing call.result 0 0 0) (call.ensures.1 ∙ fill_places-all (window_words (pattern told) (events told)) (out told) (omega (arith, few, else.if1.false)))
-    ∙ list_written (pattern told) (events told) (accepted told) (out told) call.result call.ensures.0 (omega (arith, few, else.if1.false))
+    ap (writing call.result 0 0 0) (call.ensures.1 ∙ fill_places-all (window_words (pattern told) (events told)) (out told) (omega (arith, few, else.if-out-record.false)))
+    ∙ list_written (pattern told) (events told) (accepted told) (out told) call.result call.ensures.0 (omega (arith, few, else.if-out-record.false))
 
-pub list-windows-spec : {M : Type 1} → statement M
-list-windows-spec =
+pub list_windows_spec : {M : Type 1} → statement M
+list_windows_spec =
     tie.close
     (tie.spec
     check-both-requires

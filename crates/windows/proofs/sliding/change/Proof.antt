@@ -6,60 +6,56 @@ use Rattle.windows.proofs.Excess.{zero_or_not, nonzero-le, nonzero_at, nonzero-s
 use Rattle.windows.proofs.sliding.change.Statement.{statement}
 use Rattle.windows.proofs.sliding.change.Tie as tie
 
-element-copy-out-before : tie.Need-element-copy-out-before
+element-copy-out-before : tie.Need-bounds-entries-place
 unfolding alphabet_size
 element-copy-out-before c = search rules
 
-wrapping-add-u8-requires : tie.Need-wrapping-add-u8-requires
+wrapping-add-u8-requires : tie.Need-wrapping_add_u8-after-requires
 wrapping-add-u8-requires c κs = search rules
 
-element-write-entries : tie.Need-element-write-entries
+element-write-entries : tie.Need-bounds-entries-place-2
 unfolding alphabet_size
 element-write-entries c = search rules
 
-is-zero-requires : tie.Need-is-zero-requires
+is-zero-requires : tie.Need-is_zero-requires
 is-zero-requires c κs = search rules
 
-add-result : tie.Need-overflow-add-result
+add-result : tie.Need-overflow_add-result
 unfolding alphabet_size
 add-result c =
-    let start = c.before.before.before in
-    omega (arith, start.requires, nonzero-le start.args.entries.now, c.is_zero.ensures, zero_or_not (eqb (get_or start.args.entries.now start.args.place 0) 0))
+    omega (arith, c.requires, nonzero-le c.args.entries.now, c.is_zero.ensures, zero_or_not (eqb (get_or c.args.entries.now c.args.place 0) 0))
 
-is-zero-requires-2 : tie.Need-is-zero-requires-2
+is-zero-requires-2 : tie.Need-is_zero-requires-2
 is-zero-requires-2 c κs = search rules
 
 -- the entry before and after
-module _ (c : tie.After-is-zero2) where
-  abbrev start : tie.Start
-  start = c.before.before.before.before
-
+module _ (c : tie.After-is_zero-2) where
   abbrev entries : List ℕ
-  entries = start.args.entries.now
+  entries = c.args.entries.now
 
   abbrev place : ℕ
-  place = start.args.place
+  place = c.args.place
 
   abbrev after : ℕ
-  after = c.before.before.wrapping-add-u8.result
+  after = c.wrapping_add_u8-after.result
 
-  before-or-not : c.before.is_zero.result + one (not (eqb (get_or entries place 0) 0)) ≡ 1
-  before-or-not = omega (arith, c.before.is_zero.ensures, zero_or_not (eqb (get_or entries place 0) 0))
+  before-or-not : c.is_zero.result + one (not (eqb (get_or entries place 0) 0)) ≡ 1
+  before-or-not = omega (arith, c.is_zero.ensures, zero_or_not (eqb (get_or entries place 0) 0))
 
-  after-or-not : c.is-zero2.result + one (not (eqb after 0)) ≡ 1
-  after-or-not = omega (arith, c.is-zero2.ensures, zero_or_not (eqb after 0))
+  after-or-not : c.is_zero-2.result + one (not (eqb after 0)) ≡ 1
+  after-or-not = omega (arith, c.is_zero-2.ensures, zero_or_not (eqb after 0))
 
-sub-result : tie.Need-overflow-sub-result
-sub-result c = omega (arith, (start c).requires, before-or-not c, after-or-not c, nonzero_at (entries c) (place c) (omega (arith, (start c).requires)))
+sub-result : tie.Need-overflow_sub-result
+sub-result c = omega (arith, c.requires, before-or-not c, after-or-not c, nonzero_at (entries c) (place c) (omega (arith, c.requires)))
 
 returns : tie.Need-returns
 returns c = (
-  omega (arith, (start c).requires, before-or-not c, after-or-not c, nonzero-set (entries c) (place c) (after c) (omega (arith, (start c).requires))),
-  ap (set (entries c) (place c)) c.before.before.wrapping-add-u8.ensures,
+  omega (arith, c.requires, before-or-not c, after-or-not c, nonzero-set (entries c) (place c) (after c) (omega (arith, c.requires))),
+  ap (set (entries c) (place c)) c.wrapping_add_u8-after.ensures,
 )
 
-pub change-spec : {M : Type 1} → statement M
-change-spec =
+pub change_spec : {M : Type 1} → statement M
+change_spec =
     tie.close
     (tie.spec
     element-copy-out-before
