@@ -13,46 +13,46 @@ use Rattle.words.proofs.Pairwise.{fails_more, fails_all}
 use Rattle.full_periods.proofs.counts.differs.Statement.{statement}
 use Rattle.full_periods.proofs.counts.differs.Tie as tie
 
-abbrev invariant-loop : tie.invariant-loop
+abbrev invariant-loop : tie.invariant-loop-j
 invariant-loop u v found₀ j₀ found j = (j ≤ alphabet_size) × (found ≡ not (same (take j u) (take j v)))
 
-abbrev decreases-loop : tie.decreases-loop
+abbrev decreases-loop : tie.decreases-loop-j
 decreases-loop u v found₀ j₀ found j = alphabet_size - j
 
-loop-holds : tie.Need-loop-init invariant-loop decreases-loop
+loop-holds : tie.Need-loop-j-init invariant-loop decreases-loop
 loop-holds c = (omega arith, refl)
 
-array-read-found : tie.Need-array-read-found invariant-loop decreases-loop
+array-read-found : tie.Need-bounds-u-j invariant-loop decreases-loop
 unfolding alphabet_size
 array-read-found c = search rules
 
-array-read-found-2 : tie.Need-array-read-found-2 invariant-loop decreases-loop
+array-read-found-2 : tie.Need-bounds-v-j invariant-loop decreases-loop
 unfolding alphabet_size
 array-read-found-2 c = search rules
 
-add-j : tie.Need-overflow-add-j invariant-loop decreases-loop
+add-j : tie.Need-overflow_add-j invariant-loop decreases-loop
 unfolding alphabet_size
 add-j c = search rules
 
-loop-less : tie.Need-loop-smaller invariant-loop decreases-loop
+loop-less : tie.Need-loop-j-smaller invariant-loop decreases-loop
 unfolding alphabet_size
-loop-less c = omega (arith, c.loop-test.true)
+loop-less c = omega (arith, c.loop-j-test.true)
 
-loop-again : tie.Need-loop-preserved invariant-loop decreases-loop
+loop-again : tie.Need-loop-j-preserved invariant-loop decreases-loop
 unfolding alphabet_size
 loop-again c =
-    let u = c.before.before.args.t1 in
-    let v = c.before.before.args.t2 in
-    let j = c.before.loop.j in
-    (omega arith, fails_more eqb same refl (λ a b u v. refl) u v _ j c.before.loop.invariant.1 _ (omega arith) (omega arith) refl)
+    let u = c.before.before.args.u in
+    let v = c.before.before.args.v in
+    let j = c.before.loop-j.j in
+    (omega arith, fails_more eqb same refl (λ a b u v. refl) u v _ j c.before.loop-j.invariant.1 _ (omega arith) (omega arith) refl)
 
 returns : tie.Need-returns invariant-loop decreases-loop
 unfolding alphabet_size
 returns c =
     let start = c.before.before in
-    fails_all eqb same refl (λ a b u v. refl) start.args.t1 start.args.t2 _ c.before.loop.j c.before.loop.invariant.1 (omega arith) (omega arith)
+    fails_all eqb same refl (λ a b u v. refl) start.args.u start.args.v _ c.before.loop-j.j c.before.loop-j.invariant.1 (omega arith) (omega arith)
 
-pub differs-spec : {M : Type 1} → statement M
-differs-spec =
+pub differs_spec : {M : Type 1} → statement M
+differs_spec =
     tie.close
     (tie.spec invariant-loop decreases-loop loop-holds array-read-found array-read-found-2 add-j loop-less loop-again returns)

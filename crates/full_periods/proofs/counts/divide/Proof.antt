@@ -20,10 +20,10 @@ record Divided (counts : List ℕ) (g : ℕ) (unit : List ℕ) (j : ℕ) : Type 
   size : length unit ≡ length counts
   done : (i : ℕ) → i < j → get_or unit i 0 ≡ get_or counts i 0 / g
 
-abbrev invariant-loop : tie.invariant-loop
+abbrev invariant-loop : tie.invariant-loop-j
 invariant-loop g counts unit₀ j₀ unit j = Divided counts g unit j
 
-abbrev decreases-loop : tie.decreases-loop
+abbrev decreases-loop : tie.decreases-loop-j
 decreases-loop g counts unit₀ j₀ unit j = alphabet_size - j
 
 -- one place more
@@ -45,38 +45,38 @@ divided-all {counts} {g} {unit} {j} h l =
     let e : get_or (divided counts g) i (0 / g) ≡ get_or counts i 0 / g = get_or-map (λ (x : ℕ). x / g) counts i 0 in
     h.done i (omega (arith, h.size)) ∙ sym (rw (zero-div g) at e))
 
-loop-holds : tie.Need-loop-init invariant-loop decreases-loop
+loop-holds : tie.Need-loop-j-init invariant-loop decreases-loop
 loop-holds c = record { within = omega arith; size = refl; done = λ i m. absurd (omega arith) }
 
-array-read-unit : tie.Need-array-read-unit invariant-loop decreases-loop
+array-read-unit : tie.Need-bounds-counts-j invariant-loop decreases-loop
 unfolding alphabet_size
 array-read-unit c = search rules
 
-div-unit : tie.Need-nonzero-div-unit invariant-loop decreases-loop
+div-unit : tie.Need-nonzero_div-unit invariant-loop decreases-loop
 div-unit c = search rules
 
-array-write-unit : tie.Need-array-write-unit invariant-loop decreases-loop
+array-write-unit : tie.Need-bounds-unit-j invariant-loop decreases-loop
 unfolding alphabet_size
 array-write-unit c = search rules
 
-add-j : tie.Need-overflow-add-j invariant-loop decreases-loop
+add-j : tie.Need-overflow_add-j invariant-loop decreases-loop
 unfolding alphabet_size
 add-j c = search rules
 
-loop-less : tie.Need-loop-smaller invariant-loop decreases-loop
+loop-less : tie.Need-loop-j-smaller invariant-loop decreases-loop
 unfolding alphabet_size
 loop-less c = search rules
 
-loop-again : tie.Need-loop-preserved invariant-loop decreases-loop
+loop-again : tie.Need-loop-j-preserved invariant-loop decreases-loop
 unfolding alphabet_size
-loop-again c = divided-more c.before.loop.invariant (omega arith) (omega (arith, c.before.loop.invariant.size, c.before.before.well-formed.0.1.0.1))
+loop-again c = divided-more c.before.loop-j.invariant (omega arith) (omega (arith, c.before.loop-j.invariant.size, c.before.before.well_formed.0.1.0.1))
 
 returns : tie.Need-returns invariant-loop decreases-loop
 unfolding alphabet_size
-returns c = divided-all c.before.loop.invariant (omega (arith, c.before.before.well-formed.0.1.0.1))
+returns c = divided-all c.before.loop-j.invariant (omega (arith, c.before.before.well_formed.0.1.0.1))
 
-pub divide-spec : {M : Type 1} → statement M
-divide-spec =
+pub divide_spec : {M : Type 1} → statement M
+divide_spec =
     tie.close
     (tie.spec
     invariant-loop

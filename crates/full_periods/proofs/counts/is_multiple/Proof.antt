@@ -21,10 +21,10 @@ use Rattle.full_periods.proofs.counts.is_multiple.Tie as tie
 abbrev fits : List ℕ → ℕ → List ℕ → ℕ → Bool
 fits counts times unit j = eqb (get_or counts j 0) (times * get_or unit j 0)
 
-abbrev invariant-loop : tie.invariant-loop
+abbrev invariant-loop : tie.invariant-loop-j
 invariant-loop times counts unit differing₀ j₀ differing j = (j ≤ alphabet_size) × (differing ≡ not (all (fits counts times unit) (up_from 0 j)))
 
-abbrev decreases-loop : tie.decreases-loop
+abbrev decreases-loop : tie.decreases-loop-j
 decreases-loop times counts unit differing₀ j₀ differing j = alphabet_size - j
 
 -- one place more
@@ -35,59 +35,59 @@ tried-more f j e = rw (e, add-one j, all_more f 0 j, zero-add j) (go (all f (up_
     go true = refl
     go false = refl
 
-loop-holds : tie.Need-loop-init invariant-loop decreases-loop
+loop-holds : tie.Need-loop-j-init invariant-loop decreases-loop
 loop-holds c = (omega arith, refl)
 
-array-read-wide : tie.Need-array-read-wide invariant-loop decreases-loop
+array-read-wide : tie.Need-bounds-counts-j invariant-loop decreases-loop
 array-read-wide c = search rules
 
 wide-requires : tie.Need-wide-requires invariant-loop decreases-loop
 wide-requires c κs = search rules
 
-array-read-wide-2 : tie.Need-array-read-wide-2 invariant-loop decreases-loop
+array-read-wide-2 : tie.Need-bounds-unit-j invariant-loop decreases-loop
 array-read-wide-2 c = search rules
 
-wide-requires-2 : tie.Need-wide-requires-2 invariant-loop decreases-loop
+wide-requires-2 : tie.Need-wide-requires-in-loop-j invariant-loop decreases-loop
 wide-requires-2 c κs = search rules
 
-mul-differing : tie.Need-overflow-mul-differing invariant-loop decreases-loop
+mul-differing : tie.Need-overflow_mul-differing invariant-loop decreases-loop
 unfolding longest
 mul-differing c =
     let times = c.before.before.before.before.args.times in
-    let b : c.wide2.result ≤ 255 = omega arith in
+    let b : c.wide-in-loop-j.result ≤ 255 = omega arith in
     let l : times ≤ longest = c.before.before.before.before.requires in
-    let m : times * c.wide2.result ≤ longest * 255 = mul-le-mul l b in
+    let m : times * c.wide-in-loop-j.result ≤ longest * 255 = mul-le-mul l b in
     omega arith
 
-add-j : tie.Need-overflow-add-j invariant-loop decreases-loop
+add-j : tie.Need-overflow_add-j invariant-loop decreases-loop
 add-j c = search rules
 
-loop-less : tie.Need-loop-smaller invariant-loop decreases-loop
+loop-less : tie.Need-loop-j-smaller invariant-loop decreases-loop
 unfolding alphabet_size
 loop-less c = search rules
 
-loop-again : tie.Need-loop-preserved invariant-loop decreases-loop
+loop-again : tie.Need-loop-j-preserved invariant-loop decreases-loop
 unfolding alphabet_size
 loop-again c =
     let at_wide = c.before in
     let at-loop = at_wide.before.before in
     let times = at-loop.before.args.times in
-    let j = at-loop.loop.j in (
-      omega (arith, at_wide.before.loop-test.true),
-      ap₂ (λ (a b : ℕ). at-loop.loop.differing || not (eqb a (times * b))) at_wide.wide.ensures.0 c.wide2.ensures.0
-          ∙ tried-more (fits at-loop.before.args.t1 times at-loop.before.args.t3) j at-loop.loop.invariant.1,
+    let j = at-loop.loop-j.j in (
+      omega (arith, at_wide.before.loop-j-test.true),
+      ap₂ (λ (a b : ℕ). at-loop.loop-j.differing || not (eqb a (times * b))) at_wide.wide.ensures.0 c.wide-in-loop-j.ensures.0
+          ∙ tried-more (fits at-loop.before.args.counts times at-loop.before.args.unit) j at-loop.loop-j.invariant.1,
     )
 
 returns : tie.Need-returns invariant-loop decreases-loop
 unfolding is_multiple alphabet_size
 returns c =
     let at-loop = c.before in
-    let f : ℕ → Bool = fits at-loop.before.args.t1 at-loop.before.args.times at-loop.before.args.t3 in
-    let e : at-loop.loop.j ≡ alphabet_size = omega arith in
-    ap not at-loop.loop.invariant.1 ∙ not-not (all f (up_from 0 at-loop.loop.j)) ∙ ap (λ (k : ℕ). all f (up_from 0 k)) e
+    let f : ℕ → Bool = fits at-loop.before.args.counts at-loop.before.args.times at-loop.before.args.unit in
+    let e : at-loop.loop-j.j ≡ alphabet_size = omega arith in
+    ap not at-loop.loop-j.invariant.1 ∙ not-not (all f (up_from 0 at-loop.loop-j.j)) ∙ ap (λ (k : ℕ). all f (up_from 0 k)) e
 
-pub is-multiple-spec : {M : Type 1} → statement M
-is-multiple-spec =
+pub is_multiple_spec : {M : Type 1} → statement M
+is_multiple_spec =
     tie.close
     (tie.spec
     invariant-loop

@@ -20,22 +20,22 @@ record Counted (marks : List ℕ) (n step count p : ℕ) : Type 0 where
   counted : count ≡ length (marked p marks)
   small : count ≤ p
 
-abbrev invariant-loop : tie.invariant-loop
+abbrev invariant-loop : tie.invariant-loop-p
 invariant-loop marks n step count₀ p₀ count p = Counted marks n step count p
 
-abbrev decreases-loop : tie.decreases-loop
+abbrev decreases-loop : tie.decreases-loop-p
 decreases-loop marks n step count₀ p₀ count p = n - p
 
-loop-holds : tie.Need-loop-init invariant-loop decreases-loop
+loop-holds : tie.Need-loop-p-init invariant-loop decreases-loop
 unfolding marked
 loop-holds c = record { to = omega arith; multiple = dvd-zero c.args.step; counted = refl; small = omega arith }
 
 -- a step further n is not passed
-reach : (c : tie.In-loop invariant-loop decreases-loop) → (c.before.loop.p + c.before.before.args.step ≤ c.before.before.args.n) × (1 ≤ c.before.before.args.step)
+reach : (c : tie.In-loop-p invariant-loop decreases-loop) → (c.before.loop-p.p + c.before.before.args.step ≤ c.before.before.args.n) × (1 ≤ c.before.before.args.step)
 reach c =
     let start = c.before.before in
-    let d = c.before.loop.invariant.multiple in
-    (step-within start.args.marks.now start.requires.1 d c.loop-test.true, step_positive start.args.marks.now start.requires.1 d c.loop-test.true)
+    let d = c.before.loop-p.invariant.multiple in
+    (step-within start.args.marks.now start.requires.1 d c.loop-p-test.true, step_positive start.args.marks.now start.requires.1 d c.loop-p-test.true)
 
 module _ {marks : List ℕ} {n step count p : ℕ} (h : Counted marks n step count p) (steps : Steps step n marks) (l : p < n) where
   -- a marked number is counted
@@ -56,46 +56,46 @@ module _ {marks : List ℕ} {n step count p : ℕ} (h : Counted marks n step cou
     small = omega arith;
   }
 
-add-p : tie.Need-overflow-add-p invariant-loop decreases-loop
+add-p : tie.Need-overflow_add-p invariant-loop decreases-loop
 unfolding longest
 add-p c = omega (arith, reach c, c.before.before.requires.0)
 
-element-copy-out-if1 : tie.Need-element-copy-out-if1 invariant-loop decreases-loop
+element-copy-out-if1 : tie.Need-bounds-marks-p invariant-loop decreases-loop
 unfolding longest
-element-copy-out-if1 c = omega (arith, reach c, c.before.before.requires.0)
+element-copy-out-if1 c = omega (arith, reach c.before, c.requires.0)
 
-add-count : tie.Need-overflow-add-count invariant-loop decreases-loop
+add-count : tie.Need-overflow_add-count invariant-loop decreases-loop
 unfolding longest
 add-count c = search rules
 
-loop-less : tie.Need-loop-smaller invariant-loop decreases-loop
-loop-less c = omega (arith, reach c.before.before, c.before.before.loop-test.true)
+loop-less : tie.Need-loop-p-smaller-then-marks-p-eq1 invariant-loop decreases-loop
+loop-less c = omega (arith, reach c.before.before.before, c.loop-p-test.true)
 
-loop-again : tie.Need-loop-preserved invariant-loop decreases-loop
+loop-again : tie.Need-loop-p-preserved-then-marks-p-eq1 invariant-loop decreases-loop
 loop-again c =
-    let at-loop = c.before.before.before in
+    let at-loop = c.before.before.before.before in
     let marks = at-loop.before.args.marks.now in
-    counted-more at-loop.loop.invariant at-loop.before.requires.1 c.before.before.loop-test.true
-    (one-marked marks (at-loop.loop.p + at-loop.before.args.step) c.if1.true)
+    counted-more at-loop.loop-p.invariant at-loop.before.requires.1 c.loop-p-test.true
+    (one-marked marks (at-loop.loop-p.p + at-loop.before.args.step) c.if-marks-p-eq1.true)
 
-loop-less-2 : tie.Need-loop-smaller-2 invariant-loop decreases-loop
-loop-less-2 c = omega (arith, reach c.before.before, c.before.before.loop-test.true)
+loop-less-2 : tie.Need-loop-p-smaller invariant-loop decreases-loop
+loop-less-2 c = omega (arith, reach c.before.before.before, c.loop-p-test.true)
 
-loop-again-2 : tie.Need-loop-preserved-2 invariant-loop decreases-loop
+loop-again-2 : tie.Need-loop-p-preserved invariant-loop decreases-loop
 loop-again-2 c =
-    let at-loop = c.before.before.before in
+    let at-loop = c.before.before.before.before in
     let marks = at-loop.before.args.marks.now in
-    counted_same at-loop.loop.invariant at-loop.before.requires.1 c.before.before.loop-test.true
-    (other_not_marked marks (at-loop.loop.p + at-loop.before.args.step) c.if1.false)
+    counted_same at-loop.loop-p.invariant at-loop.before.requires.1 c.loop-p-test.true
+    (other_not_marked marks (at-loop.loop-p.p + at-loop.before.args.step) c.if-marks-p-eq1.false)
 
 returns : tie.Need-returns invariant-loop decreases-loop
 returns c =
     let at-loop = c.before in
-    let e : at-loop.loop.p ≡ at-loop.before.args.n = omega arith in
-    at-loop.loop.invariant.counted ∙ ap (λ (k : ℕ). length (marked k at-loop.before.args.marks.now)) e
+    let e : at-loop.loop-p.p ≡ at-loop.before.args.n = omega arith in
+    at-loop.loop-p.invariant.counted ∙ ap (λ (k : ℕ). length (marked k at-loop.before.args.marks.now)) e
 
-pub count-marked-spec : {M : Type 1} → statement M
-count-marked-spec =
+pub count_marked_spec : {M : Type 1} → statement M
+count_marked_spec =
     tie.close
     (tie.spec
     invariant-loop

@@ -8,26 +8,26 @@ use Rattle.abelian.specs.Output.{output_word, full_word}
 use Rattle.full_periods.proofs.marks.full_word.Statement.{statement}
 use Rattle.full_periods.proofs.marks.full_word.Tie as tie
 
-cast-result : tie.Need-overflow-cast-result
+cast-result : tie.Need-overflow_cast-result
 unfolding longest
 cast-result c = search rules
 
-mul-result : tie.Need-overflow-mul-result
+mul-result : tie.Need-overflow_mul-result
 unfolding longest
 mul-result c = search rules
 
-add-result : tie.Need-overflow-add-result
+add-result : tie.Need-overflow_add-result
 unfolding longest
 add-result c = search rules
 
-div-result : tie.Need-nonzero-div-result
+div-result : tie.Need-nonzero_div-result
 div-result c = search rules
 
-cast-result-2 : tie.Need-overflow-cast-result-2
+cast-result-2 : tie.Need-overflow_cast-result-2
 unfolding longest
 cast-result-2 c = omega (arith, div-le_self c.args.n c.args.period.0)
 
-add-result-2 : tie.Need-overflow-add-result-2
+add-result-2 : tie.Need-overflow_add-result-2
 unfolding longest
 add-result-2 c = omega (arith, div-le_self c.args.n c.args.period.0)
 
@@ -35,8 +35,8 @@ returns : tie.Need-returns
 unfolding full_word output_word
 returns c = search rules
 
-pub full-word-spec : {M : Type 1} → statement M
-full-word-spec =
+pub full_word_spec : {M : Type 1} → statement M
+full_word_spec =
     tie.close
     (tie.spec
     cast-result

@@ -23,10 +23,10 @@ record Measured (marks : List ℕ) (n step greatest last k : ℕ) : Type 0 where
   greatest_is : greatest ≡ largest (distances 0 (marked k marks))
   last_is : last ≡ last_of 0 (marked k marks)
 
-abbrev invariant-loop : tie.invariant-loop
+abbrev invariant-loop : tie.invariant-loop-k
 invariant-loop marks n step greatest₀ last₀ k₀ greatest last k = Measured marks n step greatest last k
 
-abbrev decreases-loop : tie.decreases-loop
+abbrev decreases-loop : tie.decreases-loop-k
 decreases-loop marks n step greatest₀ last₀ k₀ greatest last k = n - k
 
 module _ {marks : List ℕ} {n step greatest last k : ℕ} (h : Measured marks n step greatest last k) (steps : Steps step n marks) (l : k < n) where
@@ -50,60 +50,60 @@ module _ {marks : List ℕ} {n step greatest last k : ℕ} (h : Measured marks n
     last_is = h.last_is ∙ ap (last_of 0) (sym (marked_no_more marks steps h.multiple l e));
   }
 
-loop-holds : tie.Need-loop-init invariant-loop decreases-loop
+loop-holds : tie.Need-loop-k-init invariant-loop decreases-loop
 unfolding marked distances last_of
 loop-holds c = record { to = omega arith; multiple = dvd-zero c.args.step; behind = omega arith; greatest_is = refl; last_is = refl }
 
 -- a step further n is not passed
-reach : (c : tie.In-loop invariant-loop decreases-loop) → (c.before.loop.k + c.before.before.args.step ≤ c.before.before.args.n) × (1 ≤ c.before.before.args.step)
+reach : (c : tie.In-loop-k invariant-loop decreases-loop) → (c.before.loop-k.k + c.before.before.args.step ≤ c.before.before.args.n) × (1 ≤ c.before.before.args.step)
 reach c =
     let start = c.before.before in
-    let d = c.before.loop.invariant.multiple in
-    (step-within start.args.marks.now start.requires.1 d c.loop-test.true, step_positive start.args.marks.now start.requires.1 d c.loop-test.true)
+    let d = c.before.loop-k.invariant.multiple in
+    (step-within start.args.marks.now start.requires.1 d c.loop-k-test.true, step_positive start.args.marks.now start.requires.1 d c.loop-k-test.true)
 
-add-k : tie.Need-overflow-add-k invariant-loop decreases-loop
+add-k : tie.Need-overflow_add-k invariant-loop decreases-loop
 unfolding longest
 add-k c = omega (arith, reach c, c.before.before.requires.0)
 
-element-copy-out-if1 : tie.Need-element-copy-out-if1 invariant-loop decreases-loop
+element-copy-out-if1 : tie.Need-bounds-marks-k invariant-loop decreases-loop
 unfolding longest
-element-copy-out-if1 c = omega (arith, reach c, c.before.before.requires.0)
+element-copy-out-if1 c = omega (arith, reach c.before, c.requires.0)
 
-sub-larger : tie.Need-overflow-sub-larger invariant-loop decreases-loop
+sub-larger : tie.Need-overflow_sub-k invariant-loop decreases-loop
 sub-larger c = search rules
 
-larger-requires : tie.Need-larger-requires invariant-loop decreases-loop
+larger-requires : tie.Need-larger-greatest-requires invariant-loop decreases-loop
 larger-requires c κs = search rules
 
-loop-less : tie.Need-loop-smaller invariant-loop decreases-loop
-loop-less c = omega (arith, reach c.before.before.before, c.before.before.before.loop-test.true)
+loop-less : tie.Need-loop-k-smaller-then-marks-k-eq1 invariant-loop decreases-loop
+loop-less c = omega (arith, reach c.before.before.before.before, c.loop-k-test.true)
 
-loop-again : tie.Need-loop-preserved invariant-loop decreases-loop
+loop-again : tie.Need-loop-k-preserved-then-marks-k-eq1 invariant-loop decreases-loop
 loop-again c =
     let chosen = c.before in
-    let at-loop = chosen.before.before.before in
+    let at-loop = chosen.before.before.before.before in
     let marks = at-loop.before.args.marks.now in
-    rw c.larger.ensures (measured-more at-loop.loop.invariant at-loop.before.requires.1 chosen.before.before.loop-test.true
-    (one-marked marks (at-loop.loop.k + at-loop.before.args.step) chosen.if1.true))
+    rw c.larger-greatest.ensures (measured-more at-loop.loop-k.invariant at-loop.before.requires.1 c.loop-k-test.true
+    (one-marked marks (at-loop.loop-k.k + at-loop.before.args.step) chosen.if-marks-k-eq1.true))
 
-loop-less-2 : tie.Need-loop-smaller-2 invariant-loop decreases-loop
-loop-less-2 c = omega (arith, reach c.before.before, c.before.before.loop-test.true)
+loop-less-2 : tie.Need-loop-k-smaller invariant-loop decreases-loop
+loop-less-2 c = omega (arith, reach c.before.before.before, c.loop-k-test.true)
 
-loop-again-2 : tie.Need-loop-preserved-2 invariant-loop decreases-loop
+loop-again-2 : tie.Need-loop-k-preserved invariant-loop decreases-loop
 loop-again-2 c =
-    let at-loop = c.before.before.before in
+    let at-loop = c.before.before.before.before in
     let marks = at-loop.before.args.marks.now in
-    measured-same at-loop.loop.invariant at-loop.before.requires.1 c.before.before.loop-test.true
-    (other_not_marked marks (at-loop.loop.k + at-loop.before.args.step) c.if1.false)
+    measured-same at-loop.loop-k.invariant at-loop.before.requires.1 c.loop-k-test.true
+    (other_not_marked marks (at-loop.loop-k.k + at-loop.before.args.step) c.if-marks-k-eq1.false)
 
 returns : tie.Need-returns invariant-loop decreases-loop
 returns c =
     let at-loop = c.before in
-    let e : at-loop.loop.k ≡ at-loop.before.args.n = omega arith in
-    at-loop.loop.invariant.greatest_is ∙ ap (λ (k : ℕ). largest (distances 0 (marked k at-loop.before.args.marks.now))) e
+    let e : at-loop.loop-k.k ≡ at-loop.before.args.n = omega arith in
+    at-loop.loop-k.invariant.greatest_is ∙ ap (λ (k : ℕ). largest (distances 0 (marked k at-loop.before.args.marks.now))) e
 
-pub greatest-distance-spec : {M : Type 1} → statement M
-greatest-distance-spec =
+pub greatest_distance_spec : {M : Type 1} → statement M
+greatest_distance_spec =
     tie.close
     (tie.spec
     invariant-loop

@@ -25,10 +25,10 @@ record Passed (marks : List ℕ) (n p k : ℕ) : Type 0 where
   multiple : k ≡ times * p
   below : (i : ℕ) → 1 ≤ i → i < times → is_marked marks (i * p) ≡ true
 
-abbrev invariant-loop : tie.invariant-loop
+abbrev invariant-loop : tie.invariant-loop-k
 invariant-loop marks n p k₀ k = Passed marks n p k
 
-abbrev decreases-loop : tie.decreases-loop
+abbrev decreases-loop : tie.decreases-loop-k
 decreases-loop marks n p k₀ k = suc n - k
 
 module _ {marks : List ℕ} {n p k : ℕ} (h : Passed marks n p k) where
@@ -70,37 +70,37 @@ module _ {marks : List ℕ} {n p k : ℕ} (h : Passed marks n p k) where
         (λ (q : h.times ≤ i). let r : i ≡ h.times = omega arith in rw r (ap (is_marked marks) (sym h.multiple) ∙ e)) (below_or_not i h.times);
   }
 
-loop-holds : tie.Need-loop-init invariant-loop decreases-loop
+loop-holds : tie.Need-loop-k-init invariant-loop decreases-loop
 loop-holds c = record { positive = c.requires.1; above = omega arith; times = 1; from = omega arith; multiple = sym (one-mul c.args.period.0); below = λ i b s. absurd (omega arith) }
 
-element-copy-out-if1 : tie.Need-element-copy-out-if1 invariant-loop decreases-loop
+element-copy-out-if1 : tie.Need-bounds-marks-k invariant-loop decreases-loop
 unfolding longest
 element-copy-out-if1 c = search rules
 
-returns : tie.Need-returns invariant-loop decreases-loop
+returns : tie.Need-returns-then-marks-k-ne1 invariant-loop decreases-loop
 returns c =
     let at-loop = c.before.before.before in
     let marks = at-loop.before.args.marks.now in
-    sym (failed at-loop.loop.invariant c.before.before.loop-test.true (other_not_marked marks at-loop.loop.k c.if1.true))
+    sym (failed at-loop.loop-k.invariant c.before.before.loop-k-test.true (other_not_marked marks at-loop.loop-k.k c.if-marks-k-ne1.true))
 
-add-k : tie.Need-overflow-add-k invariant-loop decreases-loop
+add-k : tie.Need-overflow_add-k invariant-loop decreases-loop
 unfolding longest
 add-k c = search rules
 
-loop-less : tie.Need-loop-smaller invariant-loop decreases-loop
+loop-less : tie.Need-loop-k-smaller invariant-loop decreases-loop
 loop-less c = search rules
 
-loop-again : tie.Need-loop-preserved invariant-loop decreases-loop
+loop-again : tie.Need-loop-k-preserved invariant-loop decreases-loop
 loop-again c =
     let at-loop = c.before.before.before in
     let marks = at-loop.before.args.marks.now in
-    next at-loop.loop.invariant c.before.before.loop-test.true (one-marked marks at-loop.loop.k c.if1.false)
+    next at-loop.loop-k.invariant c.before.before.loop-k-test.true (one-marked marks at-loop.loop-k.k c.if-marks-k-ne1.false)
 
-returns-2 : tie.Need-returns-2 invariant-loop decreases-loop
-returns-2 c = sym (done c.before.loop.invariant c.loop-test.false)
+returns-2 : tie.Need-returns invariant-loop decreases-loop
+returns-2 c = sym (done c.before.loop-k.invariant c.loop-k-test.false)
 
-pub marks-multiples-spec : {M : Type 1} → statement M
-marks-multiples-spec =
+pub marks_multiples_spec : {M : Type 1} → statement M
+marks_multiples_spec =
     tie.close
     (tie.spec
     invariant-loop

@@ -63,87 +63,87 @@ module _ {marks : List ℕ} {n step : ℕ} {out₀ out : List ℕ} {at p : ℕ} 
         size = h.size;
       }
 
-abbrev invariant-loop : tie.invariant-loop
+abbrev invariant-loop : tie.invariant-loop-p
 invariant-loop marks n step out₀ at₀ p₀ out at p = Written marks n step out₀ out at p
 
-abbrev decreases-loop : tie.decreases-loop
+abbrev decreases-loop : tie.decreases-loop-p
 decreases-loop marks n step out₀ at₀ p₀ out at p = n - p
 
-loop-holds : tie.Need-loop-init invariant-loop decreases-loop
+loop-holds : tie.Need-loop-p-init invariant-loop decreases-loop
 unfolding marked fill
 loop-holds c = record { to = omega arith; multiple = dvd-zero c.before.args.step; words = refl; filled = refl; fits = omega arith; size = refl }
 
 -- a step further n is not passed
-reach : (c : tie.In-loop invariant-loop decreases-loop)
-    → (c.before.loop.p + c.before.before.before.args.step ≤ c.before.before.before.args.n) × (1 ≤ c.before.before.before.args.step)
+reach : (c : tie.In-loop-p invariant-loop decreases-loop)
+    → (c.before.loop-p.p + c.before.before.before.args.step ≤ c.before.before.before.args.n) × (1 ≤ c.before.before.before.args.step)
 reach c =
     let start = c.before.before.before in
-    let d = c.before.loop.invariant.multiple in
-    (step-within start.args.marks.now start.requires.1.0 d c.loop-test.true, step_positive start.args.marks.now start.requires.1.0 d c.loop-test.true)
+    let d = c.before.loop-p.invariant.multiple in
+    (step-within start.args.marks.now start.requires.1.0 d c.loop-p-test.true, step_positive start.args.marks.now start.requires.1.0 d c.loop-p-test.true)
 
-add-p : tie.Need-overflow-add-p invariant-loop decreases-loop
+add-p : tie.Need-overflow_add-p invariant-loop decreases-loop
 unfolding longest
 add-p c = omega (arith, reach c, c.before.before.before.requires.0)
 
-element-copy-out-if1 : tie.Need-element-copy-out-if1 invariant-loop decreases-loop
+element-copy-out-if1 : tie.Need-bounds-marks-p invariant-loop decreases-loop
 unfolding longest
-element-copy-out-if1 c = omega (arith, reach c, c.before.before.before.requires.0)
+element-copy-out-if1 c = omega (arith, reach c.before, c.requires.0)
 
-full-word-requires : tie.Need-full-word-requires invariant-loop decreases-loop
+full-word-requires : tie.Need-full_word-requires invariant-loop decreases-loop
 full-word-requires c κs =
-    let n = c.before.before.before.before.before.requires.0 in
-    (omega (arith, reach c.before.before), (omega (arith, reach c.before.before, n), n))
+    let n = c.requires.0 in
+    (omega (arith, reach c.before.before.before), (omega (arith, reach c.before.before.before, n), n))
 
 -- there is a place for the word of a marked number
-room : (c : tie.Then1 invariant-loop decreases-loop) → c.before.before.before.loop.at < length c.before.before.before.before.before.args.out.now
+room : (c : tie.Then-marks-p-eq1 invariant-loop decreases-loop) → c.loop-p.at < length c.args.out.now
 room c =
-    let at-loop = c.before.before.before in
+    let at-loop = c.before.before.before.before in
     let start = at-loop.before.before in
-    place at-loop.loop.invariant start.requires.1.0 c.before.before.loop-test.true
-    (one-marked start.args.marks.now (at-loop.loop.p + start.args.step) c.if1.true) start.requires.1.1
+    place at-loop.loop-p.invariant start.requires.1.0 c.loop-p-test.true
+    (one-marked start.args.marks.now (at-loop.loop-p.p + start.args.step) c.if-marks-p-eq1.true) start.requires.1.1
 
-mul-out : tie.Need-overflow-mul-out invariant-loop decreases-loop
-mul-out c = omega (arith, room c.before, c.before.before.before.before.before.before.well-formed)
+mul-out : tie.Need-offset_bounds-out-at invariant-loop decreases-loop
+mul-out c = omega (arith, room c.before, c.before.before.before.before.before.before.before.well_formed)
 
-slice-write-out : tie.Need-slice-write-out invariant-loop decreases-loop
+slice-write-out : tie.Need-bounds-out-at invariant-loop decreases-loop
 slice-write-out c = omega (arith, room c.before)
 
-add_at : tie.Need-overflow-add-at invariant-loop decreases-loop
+add_at : tie.Need-overflow_add-at invariant-loop decreases-loop
 add_at c = omega (arith, room c.before)
 
-loop-less : tie.Need-loop-smaller invariant-loop decreases-loop
-loop-less c = omega (arith, reach c.before.before.before, c.before.before.before.loop-test.true)
+loop-less : tie.Need-loop-p-smaller-then-marks-p-eq1 invariant-loop decreases-loop
+loop-less c = omega (arith, reach c.before.before.before.before, c.loop-p-test.true)
 
-loop-again : tie.Need-loop-preserved invariant-loop decreases-loop
+loop-again : tie.Need-loop-p-preserved-then-marks-p-eq1 invariant-loop decreases-loop
 loop-again c =
     let chosen = c.before in
-    let at-loop = chosen.before.before.before in
+    let at-loop = chosen.before.before.before.before in
     let start = at-loop.before.before in
-    written_more at-loop.loop.invariant start.requires.1.0 chosen.before.before.loop-test.true c.full-word.result
-    (one-marked start.args.marks.now (at-loop.loop.p + start.args.step) chosen.if1.true) (room chosen) c.full-word.ensures
+    written_more at-loop.loop-p.invariant start.requires.1.0 c.loop-p-test.true c.full_word.result
+    (one-marked start.args.marks.now (at-loop.loop-p.p + start.args.step) chosen.if-marks-p-eq1.true) (room chosen) c.full_word.ensures
 
-loop-less-2 : tie.Need-loop-smaller-2 invariant-loop decreases-loop
-loop-less-2 c = omega (arith, reach c.before.before, c.before.before.loop-test.true)
+loop-less-2 : tie.Need-loop-p-smaller invariant-loop decreases-loop
+loop-less-2 c = omega (arith, reach c.before.before.before, c.loop-p-test.true)
 
-loop-again-2 : tie.Need-loop-preserved-2 invariant-loop decreases-loop
+loop-again-2 : tie.Need-loop-p-preserved invariant-loop decreases-loop
 loop-again-2 c =
-    let at-loop = c.before.before.before in
+    let at-loop = c.before.before.before.before in
     let start = at-loop.before.before in
-    written_same at-loop.loop.invariant start.requires.1.0 c.before.before.loop-test.true
-    (other_not_marked start.args.marks.now (at-loop.loop.p + start.args.step) c.if1.false)
+    written_same at-loop.loop-p.invariant start.requires.1.0 c.loop-p-test.true
+    (other_not_marked start.args.marks.now (at-loop.loop-p.p + start.args.step) c.if-marks-p-eq1.false)
 
-same_length : tie.Need-same-length invariant-loop decreases-loop
-same_length c = c.before.loop.invariant.size
+same_length : tie.Need-shape_of-out invariant-loop decreases-loop
+same_length c = c.before.loop-p.invariant.size
 
 returns : tie.Need-returns invariant-loop decreases-loop
 returns c =
     let at-loop = c.before in
     let start = at-loop.before.before in
-    let e : at-loop.loop.p ≡ start.args.n = omega arith in
-    at-loop.loop.invariant.filled ∙ ap (λ (k : ℕ). fill (map (full_word start.args.n) (marked k start.args.marks.now)) start.args.out.now) e
+    let e : at-loop.loop-p.p ≡ start.args.n = omega arith in
+    at-loop.loop-p.invariant.filled ∙ ap (λ (k : ℕ). fill (map (full_word start.args.n) (marked k start.args.marks.now)) start.args.out.now) e
 
-pub write-marked-spec : {M : Type 1} → statement M
-write-marked-spec =
+pub write_marked_spec : {M : Type 1} → statement M
+write_marked_spec =
     tie.close
     (tie.spec
     invariant-loop

@@ -29,10 +29,10 @@ record Alike (w : List ℕ) (p : ℕ) (first : List ℕ) (from : ℕ) : Type 0 w
   multiple : from ≡ times * p
   before : (i : ℕ) → i < times → vector (part w (i * p) p) ≡ vector (take p w)
 
-abbrev invariant-loop : tie.invariant-loop
+abbrev invariant-loop : tie.invariant-loop-from
 invariant-loop word p first from₀ from = Alike word p first from
 
-abbrev decreases-loop : tie.decreases-loop
+abbrev decreases-loop : tie.decreases-loop-from
 decreases-loop word p first from₀ from = length word - from
 
 module _ {w : List ℕ} {p : ℕ} {first : List ℕ} {from : ℕ} (h : Alike w p first from) (d : p ∣ length w) where
@@ -78,27 +78,27 @@ below c = proper_below c.args.period.0 (length c.args.word.now) c.requires.1.1
 positive : (c : tie.Start invariant-loop decreases-loop) → 1 ≤ c.args.period.0
 positive c = pos_of_dvd_of_pos (divisor c) (omega (arith, below c))
 
-sub-count-letters : tie.Need-overflow-sub-count-letters invariant-loop decreases-loop
+sub-count-letters : tie.Need-slice_bounds-count_letters-count invariant-loop decreases-loop
 sub-count-letters c = search rules
 
-part-count-letters-start : tie.Need-slice-bounds-count-letters-start invariant-loop decreases-loop
+part-count-letters-start : tie.Need-slice_bounds-count_letters-start invariant-loop decreases-loop
 part-count-letters-start c = search rules
 
-part-count-letters-end : tie.Need-slice-bounds-count-letters-end invariant-loop decreases-loop
+part-count-letters-end : tie.Need-slice_bounds-count_letters-end invariant-loop decreases-loop
 part-count-letters-end c = omega (arith, below c.before)
 
-count-letters-requires : tie.Need-count-letters-requires invariant-loop decreases-loop
+count-letters-requires : tie.Need-count_letters-first-requires invariant-loop decreases-loop
 count-letters-requires c κs =
     let start = c.before.before in
     part-counts start.args.word.now 0 (start.args.period.0 - 0) start.requires.0 start.requires.1.0
 
-loop-holds : tie.Need-loop-init invariant-loop decreases-loop
+loop-holds : tie.Need-loop-from-init invariant-loop decreases-loop
 loop-holds c =
     let start = c.before.before.before in
     let p = start.args.period.0 in
     let e : p - 0 ≡ p = omega arith in
     record {
-      first_is = c.count-letters.ensures ∙ ap (λ (k : ℕ). vector (take k start.args.word.now)) e;
+      first_is = c.count_letters-first.ensures ∙ ap (λ (k : ℕ). vector (take k start.args.word.now)) e;
       within = omega (arith, below start);
       times = 1;
       multiple = sym (one-mul p);
@@ -106,28 +106,28 @@ loop-holds c =
     }
 
 -- the next block is a part of the word
-next-part : (c : tie.In-loop invariant-loop decreases-loop)
-    → c.before.loop.from + c.before.before.before.before.before.args.period.0 ≤ length c.before.before.before.before.before.args.word.now
-next-part c = next_fits c.before.loop.invariant (divisor c.before.before.before.before.before) c.loop-test.true
+next-part : (c : tie.In-loop-from invariant-loop decreases-loop)
+    → c.before.loop-from.from + c.before.before.before.before.before.args.period.0 ≤ length c.before.before.before.before.before.args.word.now
+next-part c = next_fits c.before.loop-from.invariant (divisor c.before.before.before.before.before) c.loop-from-test.true
 
-add-to : tie.Need-overflow-add-to invariant-loop decreases-loop
+add-to : tie.Need-overflow_add-to invariant-loop decreases-loop
 unfolding longest
 add-to c = omega (arith, next-part c, c.before.before.before.before.before.requires.1.0)
 
-sub-count-letters-2 : tie.Need-overflow-sub-count-letters-2 invariant-loop decreases-loop
+sub-count-letters-2 : tie.Need-slice_bounds-count_letters-count-in-loop-from invariant-loop decreases-loop
 sub-count-letters-2 c = search rules
 
-part-count-letters-start-2 : tie.Need-slice-bounds-count-letters-start-2 invariant-loop decreases-loop
+part-count-letters-start-2 : tie.Need-slice_bounds-count_letters-start-in-loop-from invariant-loop decreases-loop
 part-count-letters-start-2 c = search rules
 
-part-count-letters-end-2 : tie.Need-slice-bounds-count-letters-end-2 invariant-loop decreases-loop
+part-count-letters-end-2 : tie.Need-slice_bounds-count_letters-end-in-loop-from invariant-loop decreases-loop
 part-count-letters-end-2 c = next-part c
 
-count-letters-requires-2 : tie.Need-count-letters-requires-2 invariant-loop decreases-loop
+count-letters-requires-2 : tie.Need-count_letters-requires invariant-loop decreases-loop
 count-letters-requires-2 c κs =
     let at-loop = c.before.before in
     let start = at-loop.before.before.before.before in
-    let from = at-loop.loop.from in
+    let from = at-loop.loop-from.from in
     part-counts start.args.word.now from (from + start.args.period.0 - from) start.requires.0 start.requires.1.0
 
 differs-requires : tie.Need-differs-requires invariant-loop decreases-loop
@@ -135,48 +135,48 @@ differs-requires c κs = search rules
 
 -- the vector that was counted is the block's
 counted : (c : tie.After-differs invariant-loop decreases-loop)
-    → c.before.count-letters2.result
-    ≡ vector (part c.before.before.before.before.before.before.before.before.args.word.now c.before.before.before.before.loop.from c.before.before.before.before.before.before.before.before.args.period.0)
+    → c.before.count_letters.result
+    ≡ vector (part c.before.before.before.before.before.before.before.before.args.word.now c.before.before.before.before.loop-from.from c.before.before.before.before.before.before.before.before.args.period.0)
 counted c =
     let at-loop = c.before.before.before.before in
     let start = at-loop.before.before.before.before in
-    let from = at-loop.loop.from in
+    let from = at-loop.loop-from.from in
     let p = start.args.period.0 in
     let e : from + p - from ≡ p = omega arith in
-    c.before.count-letters2.ensures ∙ ap (λ (k : ℕ). vector (part start.args.word.now from k)) e
+    c.before.count_letters.ensures ∙ ap (λ (k : ℕ). vector (part start.args.word.now from k)) e
 
-returns : tie.Need-returns invariant-loop decreases-loop
+returns : tie.Need-returns-then-differs invariant-loop decreases-loop
 returns c =
     let at-loop = c.before.before.before.before.before in
     let start = at-loop.before.before.before.before in
-    let u = c.before.before.count-letters2.result in
-    let v = at-loop.before.count-letters.result in
-    sym (not_full at-loop.loop.invariant (divisor start) c.before.before.before.before.loop-test.true
-    (λ e. fails (same u v) (not-true (same u v) (sym c.before.differs.ensures ∙ c.if1.true)) (equal_same u v (counted c.before ∙ e))))
+    let u = c.before.before.count_letters.result in
+    let v = at-loop.before.count_letters-first.result in
+    sym (not_full at-loop.loop-from.invariant (divisor start) c.before.before.before.before.loop-from-test.true
+    (λ e. fails (same u v) (not-true (same u v) (sym c.before.differs.ensures ∙ c.if-differs.true)) (equal_same u v (counted c.before ∙ e))))
 
-loop-less : tie.Need-loop-smaller invariant-loop decreases-loop
+loop-less : tie.Need-loop-from-smaller invariant-loop decreases-loop
 loop-less c =
     let in-loop = c.before.before.before.before in
     let start = in-loop.before.before.before.before.before in
     omega (arith, next-part in-loop, positive start)
 
-loop-again : tie.Need-loop-preserved invariant-loop decreases-loop
+loop-again : tie.Need-loop-from-preserved invariant-loop decreases-loop
 loop-again c =
     let at-loop = c.before.before.before.before.before in
     let start = at-loop.before.before.before.before in
-    let u = c.before.before.count-letters2.result in
-    let v = at-loop.before.count-letters.result in
-    alike-more at-loop.loop.invariant (divisor start) c.before.before.before.before.loop-test.true
-    (sym (counted c.before) ∙ same_equal u v (passes (same u v) (not-false (same u v) (sym c.before.differs.ensures ∙ c.if1.false))))
+    let u = c.before.before.count_letters.result in
+    let v = at-loop.before.count_letters-first.result in
+    alike-more at-loop.loop-from.invariant (divisor start) c.before.before.before.before.loop-from-test.true
+    (sym (counted c.before) ∙ same_equal u v (passes (same u v) (not-false (same u v) (sym c.before.differs.ensures ∙ c.if-differs.false))))
 
-returns-2 : tie.Need-returns-2 invariant-loop decreases-loop
+returns-2 : tie.Need-returns invariant-loop decreases-loop
 returns-2 c =
     let at-loop = c.before in
     let start = at-loop.before.before.before.before in
-    sym (all-full at-loop.loop.invariant (divisor start) start.requires.0 (below start) c.loop-test.false)
+    sym (all-full at-loop.loop-from.invariant (divisor start) start.requires.0 (below start) c.loop-from-test.false)
 
-pub blocks-alike-spec : {M : Type 1} → statement M
-blocks-alike-spec =
+pub blocks_alike_spec : {M : Type 1} → statement M
+blocks_alike_spec =
     tie.close
     (tie.spec
     invariant-loop

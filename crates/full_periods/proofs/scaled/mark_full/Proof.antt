@@ -2,7 +2,6 @@
 -- it. The measure is what is left of n. Assumes nothing.
 use mathlib.Core.Path.{◌≡◌, refl, sym, ap, ap₂, subst, ◌∙◌}
 use mathlib.Core.Bool.{true, false}
-use mathlib.Core.Logic.{⊎_elim}
 use mathlib.Core.List.{List}
 use Prim.Native.Nat.{ℕ, suc, ◌+◌, ◌-◌, ◌*◌, ◌%◌, ◌≤◌, ◌<◌, ◌∣◌}
 use native.Mathlib.Nat.{dvd-add, dvd_refl, dvd-mul_right, dvd-sub, le_of_dvd, dvd_of_mod-eq-zero, mul-pos}
@@ -20,6 +19,7 @@ use Rattle.full_periods.proofs.Lemma3.{scale_positive, observation_1}
 use Rattle.full_periods.proofs.Positions.{gap_positive, gap_within, observation_4, multiples_full}
 use Rattle.full_periods.proofs.scaled.mark_full.Statement.{statement}
 use Rattle.full_periods.proofs.scaled.mark_full.Tie as tie
+use Rattle.full_periods.proofs.scaled.mark_full.Lts.{then-n-p-eq0+then-marks_multiples, else-n-p-eq0, else-n-p-eq0-via-then-n-p-eq0+else-marks_multiples, else-n-p-eq0-via-else-n-p-eq0}
 
 -- a word that may be taken and is not empty, with its s and T
 record Given (w : List ℕ) (s t : ℕ) : Type 0 where
@@ -37,10 +37,10 @@ record Marked (w : List ℕ) (s n : ℕ) (marks : List ℕ) (p : ℕ) : Type 0 w
   multiple : s ∣ p
   table : Marking (is_full w) marks p
 
-abbrev invariant-loop : tie.invariant-loop
+abbrev invariant-loop : tie.invariant-loop-p
 invariant-loop word s t positions n marks₀ p₀ marks p = Marked word s n marks p
 
-abbrev decreases-loop : tie.decreases-loop
+abbrev decreases-loop : tie.decreases-loop-p
 decreases-loop word s t positions n marks₀ p₀ marks p = suc n - p
 
 module _ {w : List ℕ} {s t : ℕ} (g : Given w s t) where
@@ -104,64 +104,67 @@ module _ {w : List ℕ} {s t : ℕ} (g : Given w s t) where
 given : (c : tie.Start invariant-loop decreases-loop) → Given c.args.word.now c.args.s c.args.t
 given c = record { inside = c.requires.0; short = c.requires.1.0; some = c.requires.1.1.0; scale_is = c.requires.1.1.1.0; gap_is = c.requires.1.1.1.1.0 }
 
-mul-p : tie.Need-overflow-mul-p invariant-loop decreases-loop
+mul-p : tie.Need-overflow_mul-p invariant-loop decreases-loop
 unfolding longest
 mul-p c = omega (arith, first-within (given c.before), c.before.requires.1.0)
 
-loop-holds : tie.Need-loop-init invariant-loop decreases-loop
+loop-holds : tie.Need-loop-p-init invariant-loop decreases-loop
 unfolding longest
 loop-holds c =
     let start = c.before in
     marked_start (given start) _ (marking_start (is_full start.args.word.now))
 
-add-loop : tie.Need-overflow-add-loop invariant-loop decreases-loop
+add-loop : tie.Need-overflow_add-p invariant-loop decreases-loop
 unfolding longest
-add-loop c = omega (arith, c.loop.invariant.within, c.before.before.requires.1.0)
+add-loop c = omega (arith, c.loop-p.invariant.within, c.before.before.requires.1.0)
 
-rem-if1 : tie.Need-nonzero-rem-if1 invariant-loop decreases-loop
+rem-if1 : tie.Need-nonzero_rem-n invariant-loop decreases-loop
 rem-if1 c = search rules
 
-marks-multiples-requires : tie.Need-marks-multiples-requires invariant-loop decreases-loop
-marks-multiples-requires c κs = (c.before.before.before.before.requires.1.0, c.before.before.loop.invariant.from)
+marks-multiples-requires : tie.Need-marks_multiples-requires invariant-loop decreases-loop
+marks-multiples-requires c κs = (c.before.before.before.before.requires.1.0, c.before.before.loop-p.invariant.from)
 
-array-write-marks : tie.Need-array-write-marks invariant-loop decreases-loop
+array-write-marks : tie.Need-bounds-marks-p invariant-loop decreases-loop
 unfolding longest
-array-write-marks c = omega (arith, c.before.before.before.loop-test.true, c.before.before.before.before.before.before.requires.1.0)
+array-write-marks c = omega (arith, c.before.before.before.loop-p-test.true, c.before.before.before.before.before.before.requires.1.0)
 
-add-p : tie.Need-overflow-add-p invariant-loop decreases-loop
+add-p : tie.Need-overflow_add-p-in-loop-p invariant-loop decreases-loop
 unfolding longest
 add-p c =
     let at-loop = c.before.before in
-    let m = le_of_dvd at-loop.loop.invariant.from at-loop.loop.invariant.multiple in
-    omega (arith, m, c.before.loop-test.true, at-loop.before.before.requires.1.0)
+    let m = le_of_dvd at-loop.loop-p.invariant.from at-loop.loop-p.invariant.multiple in
+    omega (arith, m, c.before.loop-p-test.true, at-loop.before.before.requires.1.0)
 
-loop-less : tie.Need-loop-smaller invariant-loop decreases-loop
+loop-less : tie.Need-loop-p-smaller invariant-loop decreases-loop
 loop-less c = search rules
 
-loop-again : tie.Need-loop-preserved invariant-loop decreases-loop
+loop-again : tie.Need-loop-p-preserved invariant-loop decreases-loop
 loop-again c =
     let in-loop = c.before in
     let at-loop = in-loop.before in
     let start = at-loop.before.before in
     let w = start.args.word.now in
-    let p = at-loop.loop.p in
+    let p = at-loop.loop-p.p in
     let g : Given w start.args.s start.args.t = given start in
-    let below : p < length w = omega (arith, at-loop.loop.invariant.from, in-loop.loop-test.true) in
-    let l : p + p ≤ length w = omega (arith, in-loop.loop-test.true) in
+    let below : p < length w = omega (arith, at-loop.loop-p.invariant.from, in-loop.loop-p-test.true) in
+    let l : p + p ≤ length w = omega (arith, in-loop.loop-p-test.true) in
     let tried : length w % p ≡ 0 → is_full w p ≡ marks_multiples start.args.positions.now (length w) p = λ e.
     sym (multiples_full w g.inside g.some g.short p (dvd_of_mod-eq-zero p e) below)
     ∙ ap (λ (table : List ℕ). marks_multiples table (length w) p) (sym start.requires.1.1.1.1.1) in
-    ⊎_elim
-    (λ x. rw x.3 (marked_more g at-loop.loop.invariant l (tried x.0.taken ∙ sym x.1.ensures ∙ x.2.taken)))
-    (λ x. rw x.1 (marked-same g at-loop.loop.invariant l
-    (⊎_elim (λ v. tried v.0.taken ∙ sym v.1.ensures ∙ v.2.left) (λ v. indivisible_not_full w p v.left) x.0.came)))
-    c.if1.branch
+    elim c.if-n-p-eq0.branch [
+      | then-n-p-eq0+then-marks_multiples x ↦ rw x.marks-is (marked_more g at-loop.loop-p.invariant l (tried x.if-n-p-eq0.true ∙ sym x.marks_multiples.ensures ∙ x.if-marks_multiples.true))
+      | else-n-p-eq0 x ↦ rw x.marks-is (marked-same g at-loop.loop-p.invariant l
+          (elim x.else-n-p-eq0.branch [
+            | else-n-p-eq0-via-then-n-p-eq0+else-marks_multiples v ↦ tried v.if-n-p-eq0.true ∙ sym v.marks_multiples.ensures ∙ v.if-marks_multiples.false
+            | else-n-p-eq0-via-else-n-p-eq0 v ↦ indivisible_not_full w p v.if-n-p-eq0.false
+          ]))
+    ]
 
 returns : tie.Need-returns invariant-loop decreases-loop
-returns c = marked-end (given c.before.before.before) c.before.loop.invariant (omega (arith, c.loop-test.false))
+returns c = marked-end (given c.before.before.before) c.before.loop-p.invariant (omega (arith, c.loop-p-test.false))
 
-pub mark-full-spec : {M : Type 1} → statement M
-mark-full-spec =
+pub mark_full_spec : {M : Type 1} → statement M
+mark_full_spec =
     tie.close
     (tie.spec
     invariant-loop

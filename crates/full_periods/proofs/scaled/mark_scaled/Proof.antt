@@ -22,6 +22,7 @@ use Rattle.full_periods.proofs.Lemma3.{divisor_times_scale, scale_positive, scal
 use Rattle.full_periods.proofs.Positions.{is_position, within_position, behind_no_position, start_scaled, multiple_scaled, between_not_scaled}
 use Rattle.full_periods.proofs.scaled.mark_scaled.Statement.{statement}
 use Rattle.full_periods.proofs.scaled.mark_scaled.Tie as tie
+use Rattle.full_periods.proofs.scaled.mark_scaled.Lts.{then-is_multiple, else-is_multiple}
 
 record Running (w : List ℕ) (s last : ℕ) (marks counts : List ℕ) (times next i : ℕ) : Type 0 where
   last_is : last + s ≡ length w
@@ -33,10 +34,10 @@ record Running (w : List ℕ) (s last : ℕ) (marks counts : List ℕ) (times ne
   ahead : i < next
   near : next ≤ i + s
 
-abbrev invariant-loop : tie.invariant-loop
+abbrev invariant-loop : tie.invariant-loop-i
 invariant-loop word s unit marks₀ counts₀ times₀ next₀ last i₀ marks counts times next i = Running word s last marks counts times next i
 
-abbrev decreases-loop : tie.decreases-loop
+abbrev decreases-loop : tie.decreases-loop-i
 decreases-loop word s unit marks₀ counts₀ times₀ next₀ last i₀ marks counts times next i = last - i
 
 -- a word that may be taken and is not empty, with its s
@@ -124,13 +125,13 @@ module _ {w : List ℕ} {s last : ℕ} {marks counts : List ℕ} {times next i :
 given : (c : tie.Start invariant-loop decreases-loop) → Given c.args.word.now c.args.s
 given c = record { inside = c.requires.0; short = c.requires.1.0; some = c.requires.1.1.0; scale_is = c.requires.1.1.1.0 }
 
-array-write-marks : tie.Need-array-write-marks invariant-loop decreases-loop
+array-write-marks : tie.Need-bounds-marks-0 invariant-loop decreases-loop
 array-write-marks c = search rules
 
-sub-last : tie.Need-overflow-sub-last invariant-loop decreases-loop
+sub-last : tie.Need-overflow_sub-last invariant-loop decreases-loop
 sub-last c = step_small (given c.before)
 
-loop-holds : tie.Need-loop-init invariant-loop decreases-loop
+loop-holds : tie.Need-loop-i-init invariant-loop decreases-loop
 unfolding vector letters count longest
 loop-holds c =
     let start = c.before in
@@ -148,114 +149,114 @@ loop-holds c =
     }
 
 -- the letter that is read is one of the word
-inside-word : (c : tie.In-loop invariant-loop decreases-loop) → c.before.loop.i < length c.before.before.before.args.word.now
-inside-word c = omega (arith, c.before.loop.invariant.last_is, c.loop-test.true)
+inside-word : (c : tie.In-loop-i invariant-loop decreases-loop) → c.before.loop-i.i < length c.before.before.before.args.word.now
+inside-word c = omega (arith, c.before.loop-i.invariant.last_is, c.loop-i-test.true)
 
-shared-slice-read-count-more : tie.Need-shared-slice-read-count-more invariant-loop decreases-loop
+shared-slice-read-count-more : tie.Need-bounds-word-i invariant-loop decreases-loop
 shared-slice-read-count-more c = inside-word c.before
 
 -- the byte that is read is a letter
-letter : (c : tie.After-shared-slice-known2 invariant-loop decreases-loop)
-    → (first_letter ≤ get_or c.before.before.before.before.args.word.now c.before.before.loop.i 0)
-    × (get_or c.before.before.before.before.args.word.now c.before.before.loop.i 0 < first_letter + alphabet_size)
+letter : (c : tie.After-shared_slice_known-in-loop-i-1 invariant-loop decreases-loop)
+    → (first_letter ≤ get_or c.before.before.before.before.args.word.now c.before.before.loop-i.i 0)
+    × (get_or c.before.before.before.before.args.word.now c.before.before.loop-i.i 0 < first_letter + alphabet_size)
 letter c =
     let at-loop = c.before.before in
     let start = at-loop.before.before in
-    letter_at start.args.word.now at-loop.loop.i start.requires.0 (inside-word c.before)
+    letter_at start.args.word.now at-loop.loop-i.i start.requires.0 (inside-word c.before)
 
-sub-count-more : tie.Need-overflow-sub-count-more invariant-loop decreases-loop
+sub-count-more : tie.Need-overflow_sub-word invariant-loop decreases-loop
 unfolding first_letter
 sub-count-more c = omega (arith, letter c)
 
-count-more-requires : tie.Need-count-more-requires invariant-loop decreases-loop
+count-more-requires : tie.Need-count_more-more-requires invariant-loop decreases-loop
 unfolding first_letter
 count-more-requires c κs =
     let at-loop = c.before.before in
     let start = at-loop.before.before in
-    let i = at-loop.loop.i in (
+    let i = at-loop.loop-i.i in (
       omega (arith, letter c),
       λ j b.
-          let e = ap (λ (v : List ℕ). get_or v j 0) at-loop.loop.invariant.running in
+          let e = ap (λ (v : List ℕ). get_or v j 0) at-loop.loop-i.invariant.running in
           omega (arith, e, entry_le start.args.word.now i j b, inside-word c.before, start.requires.1.0),
     )
 
-add-i : tie.Need-overflow-add-i invariant-loop decreases-loop
+add-i : tie.Need-overflow_add-i invariant-loop decreases-loop
 add-i c = omega (arith, inside-word c.before.before, c.before.before.before.before.before.requires.1.0)
 
 -- the counts with the letter that was read
-read : (c : tie.After-count-more invariant-loop decreases-loop)
-    → c.count-more.result ≡ vector (take (c.before.before.before.loop.i + 1) c.before.before.before.before.before.args.word.now)
+read : (c : tie.After-count_more-more invariant-loop decreases-loop)
+    → c.count_more-more.result ≡ vector (take (c.before.before.before.loop-i.i + 1) c.before.before.before.before.before.args.word.now)
 unfolding first_letter
 read c =
     let at-loop = c.before.before.before in
     let start = at-loop.before.before in
-    let k = get_or start.args.word.now at-loop.loop.i 0 - first_letter in
-    c.count-more.ensures ∙ ap (λ (v : List ℕ). set v k (get_or v k 0 + 1)) at-loop.loop.invariant.running
-    ∙ vector-take-more start.args.word.now at-loop.loop.i start.requires.0 (inside-word c.before.before)
+    let k = get_or start.args.word.now at-loop.loop-i.i 0 - first_letter in
+    c.count_more-more.ensures ∙ ap (λ (v : List ℕ). set v k (get_or v k 0 + 1)) at-loop.loop-i.invariant.running
+    ∙ vector-take-more start.args.word.now at-loop.loop-i.i start.requires.0 (inside-word c.before.before)
 
 -- at a multiple of s
-small : (c : tie.Then1 invariant-loop decreases-loop)
-    → (c.before.before.before.before.loop.times ≤ length c.before.before.before.before.before.before.args.word.now)
+small : (c : tie.Then-i-next invariant-loop decreases-loop)
+    → (c.before.before.before.before.loop-i.times ≤ length c.before.before.before.before.before.before.args.word.now)
     × (c.before.before.before.before.before.before.args.s ≤ length c.before.before.before.before.before.before.args.word.now)
 small c =
     let at-loop = c.before.before.before.before in
-    times-small (given at-loop.before.before) at-loop.loop.invariant c.before.before.before.loop-test.true c.if1.true
+    times-small (given at-loop.before.before) at-loop.loop-i.invariant c.before.before.before.loop-i-test.true c.if-i-next.true
 
-is-multiple-requires : tie.Need-is-multiple-requires invariant-loop decreases-loop
+is-multiple-requires : tie.Need-is_multiple-requires invariant-loop decreases-loop
 is-multiple-requires c κs = omega (arith, small c, c.before.before.before.before.before.before.requires.1.0)
 
-array-write-marks-2 : tie.Need-array-write-marks-2 invariant-loop decreases-loop
+array-write-marks-2 : tie.Need-bounds-marks-i invariant-loop decreases-loop
 unfolding longest
 array-write-marks-2 c =
     let in-loop = c.before.before.before.before.before in
     omega (arith, inside-word in-loop, in-loop.before.before.before.requires.1.0)
 
-add_times : tie.Need-overflow-add-times invariant-loop decreases-loop
+add_times : tie.Need-overflow_add-times invariant-loop decreases-loop
 unfolding longest
 add_times c =
     let then = c.before.before in
     omega (arith, small then, then.before.before.before.before.before.before.requires.1.0)
 
-add-next : tie.Need-overflow-add-next invariant-loop decreases-loop
+add-next : tie.Need-overflow_add-next invariant-loop decreases-loop
 unfolding longest
 add-next c =
     let then = c.before.before in
-    omega (arith, small then, then.before.before.before.before.before.before.requires.1.0, then.if1.true, inside-word then.before.before.before)
+    omega (arith, small then, then.before.before.before.before.before.before.requires.1.0, then.if-i-next.true, inside-word then.before.before.before)
 
-loop-less : tie.Need-loop-smaller invariant-loop decreases-loop
+loop-less : tie.Need-loop-i-smaller-then-i-next invariant-loop decreases-loop
 loop-less c = search rules
 
-loop-again : tie.Need-loop-preserved invariant-loop decreases-loop
+loop-again : tie.Need-loop-i-preserved-then-i-next invariant-loop decreases-loop
 loop-again c =
     let then = c.before.before in
     let at-loop = then.before.before.before.before in
     let start = at-loop.before.before in
     let g : Given start.args.word.now start.args.s = given start in
-    let l = then.before.before.before.loop-test.true in
+    let l = then.before.before.before.loop-i-test.true in
     let r = read then.before in
-    let e = compared g at-loop.loop.invariant l _ start.args.unit r start.requires.1.1.1.1 then.if1.true in
-    ⊎_elim
-    (λ w. rw w.1 (at-multiple g at-loop.loop.invariant l r then.if1.true (table-mark g at-loop.loop.invariant l (sym e ∙ sym c.before.is-multiple.ensures ∙ w.0.taken))))
-    (λ w. rw w.1 (at-multiple g at-loop.loop.invariant l r then.if1.true (table-pass g at-loop.loop.invariant l (sym e ∙ sym c.before.is-multiple.ensures ∙ w.0.left))))
-    c.if2.branch
+    let e = compared g at-loop.loop-i.invariant l _ start.args.unit r start.requires.1.1.1.1 then.if-i-next.true in
+    elim c.if-is_multiple.branch [
+      | then-is_multiple w ↦ rw w.marks-is (at-multiple g at-loop.loop-i.invariant l r then.if-i-next.true (table-mark g at-loop.loop-i.invariant l (sym e ∙ sym c.before.is_multiple.ensures ∙ w.if-is_multiple.true)))
+      | else-is_multiple w ↦ rw w.marks-is (at-multiple g at-loop.loop-i.invariant l r then.if-i-next.true (table-pass g at-loop.loop-i.invariant l (sym e ∙ sym c.before.is_multiple.ensures ∙ w.if-is_multiple.false)))
+    ]
 
-loop-less-2 : tie.Need-loop-smaller-2 invariant-loop decreases-loop
+loop-less-2 : tie.Need-loop-i-smaller invariant-loop decreases-loop
 loop-less-2 c = search rules
 
-loop-again-2 : tie.Need-loop-preserved-2 invariant-loop decreases-loop
+loop-again-2 : tie.Need-loop-i-preserved invariant-loop decreases-loop
 loop-again-2 c =
     let at-loop = c.before.before.before.before in
-    between (given at-loop.before.before) at-loop.loop.invariant c.before.before.before.loop-test.true (read c.before) c.if1.false
+    between (given at-loop.before.before) at-loop.loop-i.invariant c.before.before.before.loop-i-test.true (read c.before) c.if-i-next.false
 
-array-write-marks-3 : tie.Need-array-write-marks-3 invariant-loop decreases-loop
+array-write-marks-3 : tie.Need-bounds-marks-word invariant-loop decreases-loop
 unfolding longest
 array-write-marks-3 c = omega (arith, c.before.before.before.requires.1.0)
 
 returns : tie.Need-returns invariant-loop decreases-loop
-returns c = table-end (given c.before.before.before) c.before.loop.invariant c.loop-test.false
+returns c = table-end (given c.before.before.before) c.before.loop-i.invariant c.loop-i-test.false
 
-pub mark-scaled-spec : {M : Type 1} → statement M
-mark-scaled-spec =
+pub mark_scaled_spec : {M : Type 1} → statement M
+mark_scaled_spec =
     tie.close
     (tie.spec
     invariant-loop
