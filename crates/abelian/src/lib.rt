@@ -27,26 +27,26 @@ pub const BOARD: usize = 14520;
 
 // The length of a head.
 #[repr(C)]
-#[derive(Drop)]
+#[derive(Clone, Copy)]
 pub struct Head(pub usize);
 
 // The length of a block.
 #[repr(C)]
-#[derive(Drop)]
+#[derive(Clone, Copy)]
 pub struct Period(pub usize);
 
 // Over how many letters square-free words are: the first so many of the alphabet.
 #[repr(C)]
-#[derive(Drop)]
+#[derive(Clone, Copy)]
 pub struct Alphabet(pub usize);
 
 // The number of letters of a square-free word.
 #[repr(C)]
-#[derive(Drop)]
+#[derive(Clone, Copy)]
 pub struct Length(pub usize);
 
 // Why a call was refused, in the order of the numbers that documents 01 and 02 give. A case that has a value holds it.
-#[derive(Drop)]
+#[derive(Clone, Copy)]
 pub enum Refusal {
     // 1: a word above 240 letters.
     TooLong,
@@ -115,7 +115,7 @@ pub fn value(refusal: Refusal) -> usize
 }
 
 // What the judge answers.
-#[derive(Drop)]
+#[derive(Clone, Copy)]
 pub enum Verdict {
     // The pair is an Abelian period.
     Yes,
@@ -125,35 +125,35 @@ pub enum Verdict {
 }
 
 // What a lister of periods answers: the words written, and the pairs tried.
-#[derive(Drop)]
+#[derive(Clone, Copy)]
 pub enum Listed {
     Written { words: usize, trials: usize },
     Refused(Refusal),
 }
 
 // What the scaled path of full periods answers: the words written, and the numbers s and T of document 01.
-#[derive(Drop)]
+#[derive(Clone, Copy)]
 pub enum Scaled {
     Written { words: usize, s: usize, t: usize },
     Refused(Refusal),
 }
 
 // What any other list call answers: the words written.
-#[derive(Drop)]
+#[derive(Clone, Copy)]
 pub enum Wrote {
     Words(usize),
     Refused(Refusal),
 }
 
 // What a count answers: how many words its list has, and so how many places a slice needs.
-#[derive(Drop)]
+#[derive(Clone, Copy)]
 pub enum Needed {
     Words(usize),
     Refused(Refusal),
 }
 
 // What the search for a cover answers: the smallest cover length, or that there is no cover.
-#[derive(Drop)]
+#[derive(Clone, Copy)]
 pub enum Covered {
     Length(usize),
     Nothing,
@@ -161,7 +161,7 @@ pub enum Covered {
 }
 
 // What a call answers that writes no list and finds nothing.
-#[derive(Drop)]
+#[derive(Clone, Copy)]
 pub enum Outcome {
     Accepted,
     Refused(Refusal),
