@@ -5,28 +5,28 @@ use Rattle.words.proofs.Listings.{refused_count, accepted_word, accepted_count}
 use Rattle.listers.proofs.count_skipping.Statement.{statement}
 use Rattle.listers.proofs.count_skipping.Tie as tie
 
-check-word-requires : tie.Need-check-word-requires
+check-word-requires : tie.Need-check_word-requires
 check-word-requires c κs = search rules
 
-enum-known-refusal : tie.Need-enum-known-refusal
+enum-known-refusal : tie.Need-enum_known-refusal
 enum-known-refusal c = search rules
 
-returns : tie.Need-returns
+returns : tie.Need-returns-in-Refused
 unfolding period_count
-returns c = refused_count _ c.before.before.before.check-word.ensures _ c.before.refusal.given.1
+returns c = refused_count _ c.check_word.ensures _ c.in-Refused.is
 
-enum_told : tie.Need-enum-told
+enum_told : tie.Need-enum_told-1
 enum_told c = search rules
 
-number-of-periods-requires : tie.Need-number-of-periods-requires
-number-of-periods-requires c κs = accepted_word _ c.before.before.check-word.ensures c.enum_told.given.1
+number-of-periods-requires : tie.Need-number_of_periods-requires
+number-of-periods-requires c κs = accepted_word _ c.check_word.ensures c.in_default.is
 
-returns-2 : tie.Need-returns-2
+returns-2 : tie.Need-returns
 unfolding period_count
 returns-2 c =
     let told = c.before in
-    accepted_count _ told.before.before.check-word.ensures told.enum_told.given.1 _ c.number-of-periods.ensures
+    accepted_count _ told.check_word.ensures told.in_default.is _ c.number_of_periods.ensures
 
-pub count-skipping-spec : {M : Type 1} → statement M
-count-skipping-spec =
+pub count_skipping_spec : {M : Type 1} → statement M
+count_skipping_spec =
     tie.close (tie.spec check-word-requires enum-known-refusal returns enum_told number-of-periods-requires returns-2)

@@ -14,22 +14,22 @@ use borrow.Author.Rules.{rules}
 use Rattle.listers.proofs.list_open.Statement.{statement}
 use Rattle.listers.proofs.list_open.Tie as tie
 
-returns : tie.Need-returns
+returns : tie.Need-returns-then-out-words
 unfolding open_listing words_listed
 returns c =
     let start = c.before.before in
     let opened = open_pairs start.args.n start.args.board.now in
     let out = start.args.out.now in
     let counted : start.args.found.live ≡ length (map period_word opened) = start.requires.1 ∙ sym (length-map opened period_word) in
-    rw (lt-ltb (length out) (length (map period_word opened)) (omega (arith, counted, c.if1.true))) (ap (λ (k : ℕ). refusing (SliceTooShort k) out) counted)
+    rw (lt-ltb (length out) (length (map period_word opened)) (omega (arith, counted, c.if-out-words.true))) (ap (λ (k : ℕ). refusing (SliceTooShort k) out) counted)
 
-write-open-requires : tie.Need-write-open-requires
+write-open-requires : tie.Need-write_open-requires
 write-open-requires c κs = search rules
 
-same_length : tie.Need-same-length
+same_length : tie.Need-shape_of-out
 same_length c = search rules
 
-returns-2 : tie.Need-returns-2
+returns-2 : tie.Need-returns
 unfolding open_listing words_listed
 returns-2 c =
     let e = c.before.before.before.before in
@@ -37,9 +37,9 @@ returns-2 c =
     let opened = open_pairs start.args.n start.args.board.now in
     let out = start.args.out.now in
     let counted : start.args.found.live ≡ length (map period_word opened) = start.requires.1 ∙ sym (length-map opened period_word) in
-    rw (le-ltb (length out) (length (map period_word opened)) (omega (arith, counted, e.if1.false)))
-    (ap₂ (λ k l. writing k start.args.found.tried 0 0 l) counted c.before.before.write-open.ensures)
+    rw (le-ltb (length out) (length (map period_word opened)) (omega (arith, counted, e.if-out-words.false)))
+    (ap₂ (λ k l. writing k start.args.found.tried 0 0 l) counted c.before.before.write_open.ensures)
 
-pub list-open-spec : {M : Type 1} → statement M
-list-open-spec =
+pub list_open_spec : {M : Type 1} → statement M
+list_open_spec =
     tie.close (tie.spec returns write-open-requires same_length returns-2)

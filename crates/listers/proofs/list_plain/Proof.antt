@@ -16,62 +16,58 @@ use borrow.Author.Rules.{rules}
 use Rattle.listers.proofs.list_plain.Statement.{statement}
 use Rattle.listers.proofs.list_plain.Tie as tie
 
-check-word-requires : tie.Need-check-word-requires
+check-word-requires : tie.Need-check_word-requires
 check-word-requires c κs = search rules
 
-enum-known-refusal : tie.Need-enum-known-refusal
+enum-known-refusal : tie.Need-enum_known-refusal
 enum-known-refusal c = search rules
 
-returns : tie.Need-returns
+returns : tie.Need-returns-in-Refused
 unfolding plain_listing listing
 returns c =
-    let a = c.before.before.before in
-    let word = a.before.before.before.args.word.now in
-    let refused : word_refusal word false 0 0 ≡ some c.before.refusal.given.0.0 =
-    refused_some (word_refusal word false 0 0) c.before.refusal.given.0.0 (sym a.check-word.ensures ∙ c.before.refusal.given.1) in
-    rw (refused_anyway word refused false (length (period_words word)) (length a.before.before.before.args.out.now))
+    let word = c.args.word.now in
+    let refused : word_refusal word false 0 0 ≡ some c.in-Refused.refusal =
+    refused_some (word_refusal word false 0 0) c.in-Refused.refusal (sym c.check_word.ensures ∙ c.in-Refused.is) in
+    rw (refused_anyway word refused false (length (period_words word)) (length c.args.out.now))
 
-enum_told : tie.Need-enum-told
+enum_told : tie.Need-enum_told-1
 enum_told c = search rules
 
 -- the word has been accepted
-module _ (c : tie.After-enum-told) where
-  abbrev start : tie.Start
-  start = c.before.before.before.before.before
-
+module _ (c : tie.In_default) where
   abbrev word : List ℕ
-  word = start.args.word.now
+  word = c.args.word.now
 
   accepted : word_refusal word false 0 0 ≡ none
-  accepted = accepted_none (word_refusal word false 0 0) (sym c.before.before.check-word.ensures ∙ c.enum_told.given.1)
+  accepted = accepted_none (word_refusal word false 0 0) (sym c.check_word.ensures ∙ c.in_default.is)
 
-count-prefixes-requires : tie.Need-count-prefixes-requires
+count-prefixes-requires : tie.Need-count_prefixes-requires
 unfolding longest
 count-prefixes-requires c κs = let a = c.before in (accepted_letters (word a) (accepted a), (accepted_length (word a) (accepted a), refl))
 
-end-pairs-requires : tie.Need-end-pairs-requires
+end-pairs-requires : tie.Need-end_pairs-trials-requires
 unfolding board_size
 end-pairs-requires c κs =
     let a = c.before.before.before.before in
-    (record { all = accepted_letters (word a) (accepted a); short = accepted_length (word a) (accepted a); rows = c.before.before.count-prefixes.ensures }, refl)
+    (record { all = accepted_letters (word a) (accepted a); short = accepted_length (word a) (accepted a); rows = c.before.before.count_prefixes.ensures }, refl)
 
-list-open-requires : tie.Need-list-open-requires
-list-open-requires c κs = let a = c.before.before.before.before.before.before.before in (accepted_length (word a) (accepted a), c.before.before.end-pairs.ensures.1.0)
+list-open-requires : tie.Need-list_open-requires
+list-open-requires c κs = let a = c.before.before.before.before.before.before.before in (accepted_length (word a) (accepted a), c.before.before.end_pairs-trials.ensures.1.0)
 
-same_length : tie.Need-same-length
+same_length : tie.Need-shape_of-out
 same_length c = search rules
 
-returns-2 : tie.Need-returns-2
+returns-2 : tie.Need-returns
 unfolding zeros board_size
 returns-2 c =
     let l = c.before.before in
     let e = l.before.before.before in
     let a = e.before.before.before.before.before in
-    l.List-open.ensures
-    ∙ plain_listed (word a) (start a).args.out.now _ _ (accepted a) e.end-pairs.ensures.1.1 e.end-pairs.ensures.0
+    l.list_open.ensures
+    ∙ plain_listed (word a) c.args.out.now _ _ (accepted a) e.end_pairs-trials.ensures.1.1 e.end_pairs-trials.ensures.0
 
-pub list-plain-spec : {M : Type 1} → statement M
-list-plain-spec =
+pub list_plain_spec : {M : Type 1} → statement M
+list_plain_spec =
     tie.close
     (tie.spec
     check-word-requires

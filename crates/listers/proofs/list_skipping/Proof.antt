@@ -15,56 +15,52 @@ use borrow.Author.Rules.{rules}
 use Rattle.listers.proofs.list_skipping.Statement.{statement}
 use Rattle.listers.proofs.list_skipping.Tie as tie
 
-check-word-requires : tie.Need-check-word-requires
+check-word-requires : tie.Need-check_word-requires
 check-word-requires c κs = search rules
 
-enum-known-refusal : tie.Need-enum-known-refusal
+enum-known-refusal : tie.Need-enum_known-refusal
 enum-known-refusal c = search rules
 
-returns : tie.Need-returns
+returns : tie.Need-returns-in-Refused
 unfolding skipping_listing listing
 returns c =
-    let a = c.before.before.before in
-    let word = a.before.before.before.args.word.now in
-    let refused : word_refusal word false 0 0 ≡ some c.before.refusal.given.0.0 =
-    refused_some (word_refusal word false 0 0) c.before.refusal.given.0.0 (sym a.check-word.ensures ∙ c.before.refusal.given.1) in
-    rw (refused_anyway word refused false (length (period_words word)) (length a.before.before.before.args.out.now))
+    let word = c.args.word.now in
+    let refused : word_refusal word false 0 0 ≡ some c.in-Refused.refusal =
+    refused_some (word_refusal word false 0 0) c.in-Refused.refusal (sym c.check_word.ensures ∙ c.in-Refused.is) in
+    rw (refused_anyway word refused false (length (period_words word)) (length c.args.out.now))
 
-enum_told : tie.Need-enum-told
+enum_told : tie.Need-enum_told-1
 enum_told c = search rules
 
 -- the word has been accepted
-module _ (c : tie.After-enum-told) where
-  abbrev start : tie.Start
-  start = c.before.before.before.before.before
-
+module _ (c : tie.In_default) where
   abbrev word : List ℕ
-  word = start.args.word.now
+  word = c.args.word.now
 
   accepted : word_refusal word false 0 0 ≡ none
-  accepted = accepted_none (word_refusal word false 0 0) (sym c.before.before.check-word.ensures ∙ c.enum_told.given.1)
+  accepted = accepted_none (word_refusal word false 0 0) (sym c.check_word.ensures ∙ c.in_default.is)
 
-try-candidates-requires : tie.Need-try-candidates-requires
+try-candidates-requires : tie.Need-try_candidates-trials-requires
 unfolding board_size
 try-candidates-requires c κs = let e = c.before in (accepted_letters (word e) (accepted e), (accepted_length (word e) (accepted e), refl))
 
-list-open-requires : tie.Need-list-open-requires
-list-open-requires c κs = let e = c.before.before.before.before in (accepted_length (word e) (accepted e), c.before.before.try-candidates.ensures.1.0)
+list-open-requires : tie.Need-list_open-requires
+list-open-requires c κs = let e = c.before.before.before.before in (accepted_length (word e) (accepted e), c.before.before.try_candidates-trials.ensures.1.0)
 
-same_length : tie.Need-same-length
+same_length : tie.Need-shape_of-out
 same_length c = search rules
 
-returns-2 : tie.Need-returns-2
+returns-2 : tie.Need-returns
 unfolding zeros board_size
 returns-2 c =
     let l = c.before.before in
     let n = l.before.before.before in
     let e = n.before.before in
-    l.List-open.ensures
-    ∙ skipping_listed (word e) (start e).args.out.now _ _ (accepted e) n.try-candidates.ensures.1.1 n.try-candidates.ensures.0
+    l.list_open.ensures
+    ∙ skipping_listed (word e) c.args.out.now _ _ (accepted e) n.try_candidates-trials.ensures.1.1 n.try_candidates-trials.ensures.0
 
-pub list-skipping-spec : {M : Type 1} → statement M
-list-skipping-spec =
+pub list_skipping_spec : {M : Type 1} → statement M
+list_skipping_spec =
     tie.close
     (tie.spec
     check-word-requires

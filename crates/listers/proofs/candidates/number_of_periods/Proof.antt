@@ -8,7 +8,7 @@ use Rattle.listers.proofs.Listings.{zeros, open_count, tried_periods}
 use Rattle.listers.proofs.candidates.number_of_periods.Statement.{statement}
 use Rattle.listers.proofs.candidates.number_of_periods.Tie as tie
 
-try-candidates-requires : tie.Need-try-candidates-requires
+try-candidates-requires : tie.Need-try_candidates-trials-requires
 unfolding board_size
 try-candidates-requires c κs = search rules
 
@@ -17,8 +17,8 @@ unfolding zeros board_size
 returns c =
     let start = c.before.before.before in
     let word = start.args.word.now in
-    c.try-candidates.ensures.1.0
-    ∙ open_count word _ (ap (open_pairs (length word)) c.try-candidates.ensures.1.1 ∙ tried_periods word start.requires.0 start.requires.1)
+    c.try_candidates-trials.ensures.1.0
+    ∙ open_count word _ (ap (open_pairs (length word)) c.try_candidates-trials.ensures.1.1 ∙ tried_periods word start.requires.0 start.requires.1)
 
-pub number-of-periods-spec : {M : Type 1} → statement M
-number-of-periods-spec = tie.close (tie.spec try-candidates-requires returns)
+pub number_of_periods_spec : {M : Type 1} → statement M
+number_of_periods_spec = tie.close (tie.spec try-candidates-requires returns)

@@ -13,21 +13,21 @@ use Rattle.listers.proofs.Passed.{length_passed}
 use Rattle.listers.proofs.candidates.try_candidates.Statement.{statement}
 use Rattle.listers.proofs.candidates.try_candidates.Tie as tie
 
-count-prefixes-requires : tie.Need-count-prefixes-requires
+count-prefixes-requires : tie.Need-count_prefixes-requires
 unfolding longest
 count-prefixes-requires c κs = search rules
 
-lowest-periods-requires : tie.Need-lowest-periods-requires
+lowest-periods-requires : tie.Need-lowest_periods-lowest-requires
 lowest-periods-requires c κs = search rules
 
-pass-over-requires : tie.Need-pass-over-requires
+pass-over-requires : tie.Need-pass_over-requires
 pass-over-requires c κs = search rules
 
-end-pairs-requires : tie.Need-end-pairs-requires
+end-pairs-requires : tie.Need-end_pairs-requires
 end-pairs-requires c κs =
     let over = c.before.before in
     let start = over.before.before.before.before.before.before.before.before in
-    (search rules, ap length over.pass-over.ensures ∙ length_passed _ _ _ start.requires.1.1)
+    (search rules, ap length over.pass_over.ensures ∙ length_passed _ _ _ start.requires.1.1)
 
 returns : tie.Need-returns
 unfolding others_passed
@@ -36,12 +36,12 @@ returns c =
     let found = over.before.before.before in
     let start = found.before.before.before.before.before in
     let word = start.args.word.now in
-    let passed : over.pass-over.new.1.1.0 ≡ others_passed word start.args.board.now =
-    over.pass-over.ensures ∙ ap (λ (lowest : List ℕ). all_passed (length word) lowest start.args.board.now) found.lowest-periods.ensures in
-    (c.end-pairs.ensures.0 ∙ ap (λ (b : List ℕ). length (open_pairs (length word) b)) passed, (c.end-pairs.ensures.1.0, c.end-pairs.ensures.1.1 ∙ ap (all_ended word) passed))
+    let passed : over.pass_over.new.board ≡ others_passed word start.args.board.now =
+    over.pass_over.ensures ∙ ap (λ (lowest : List ℕ). all_passed (length word) lowest start.args.board.now) found.lowest_periods-lowest.ensures in
+    (c.end_pairs.ensures.0 ∙ ap (λ (b : List ℕ). length (open_pairs (length word) b)) passed, (c.end_pairs.ensures.1.0, c.end_pairs.ensures.1.1 ∙ ap (all_ended word) passed))
 
-pub try-candidates-spec : {M : Type 1} → statement M
-try-candidates-spec =
+pub try_candidates_spec : {M : Type 1} → statement M
+try_candidates_spec =
     tie.close
     (tie.spec
     count-prefixes-requires

@@ -18,47 +18,47 @@ use Rattle.listers.proofs.LowestPeriods.{Heads, first_head, long_whole, ruled_wh
 use Rattle.listers.proofs.lowest.lowest_periods.Statement.{statement}
 use Rattle.listers.proofs.lowest.lowest_periods.Tie as tie
 
-abbrev invariant-loop : tie.invariant-loop
+abbrev invariant-loop : tie.invariant-loop-h
 invariant-loop word counts select gaps lowest₀ reach₀ h₀ lowest reach h = Heads word lowest reach h
 
-abbrev decreases-loop : tie.decreases-loop
+abbrev decreases-loop : tie.decreases-loop-h
 decreases-loop word counts select gaps lowest₀ reach₀ h₀ lowest reach h = length word - h
 
-find-positions-requires : tie.Need-find-positions-requires invariant-loop decreases-loop
+find-positions-requires : tie.Need-find_positions-requires invariant-loop decreases-loop
 unfolding alphabet_size longest
 find-positions-requires c κs = search rules
 
-greatest-gaps-requires : tie.Need-greatest-gaps-requires invariant-loop decreases-loop
+greatest-gaps-requires : tie.Need-greatest_gaps-gaps-requires invariant-loop decreases-loop
 greatest-gaps-requires c κs = search rules
 
-loop-holds : tie.Need-loop-init invariant-loop decreases-loop
+loop-holds : tie.Need-loop-h-init invariant-loop decreases-loop
 unfolding longest untried
 loop-holds c = first_head _
 
-mul-loop : tie.Need-overflow-mul-loop invariant-loop decreases-loop
+mul-loop : tie.Need-overflow_mul-h invariant-loop decreases-loop
 mul-loop c = search rules
 
-array-read-lowest-period : tie.Need-array-read-lowest-period invariant-loop decreases-loop
+array-read-lowest-period : tie.Need-bounds-gaps-h invariant-loop decreases-loop
 unfolding longest
 array-read-lowest-period c = search rules
 
-lowest-period-requires : tie.Need-lowest-period-requires invariant-loop decreases-loop
+lowest-period-requires : tie.Need-lowest_period-requires invariant-loop decreases-loop
 unfolding longest
 lowest-period-requires c κs = search rules
 
-array-write-lowest : tie.Need-array-write-lowest invariant-loop decreases-loop
+array-write-lowest : tie.Need-bounds-lowest-h invariant-loop decreases-loop
 unfolding longest
 array-write-lowest c = search rules
 
-shared-slice-read-place : tie.Need-shared-slice-read-place invariant-loop decreases-loop
+shared-slice-read-place : tie.Need-bounds-word-h invariant-loop decreases-loop
 shared-slice-read-place c = search rules
 
 -- the letter behind the head: its place, its count in the longer head, and the position of its occurrence number twice that
-module _ (c : tie.After-shared-slice-known2 invariant-loop decreases-loop) where
-  abbrev at-loop : tie.At-loop invariant-loop decreases-loop
+module _ (c : tie.After-shared_slice_known-in-loop-h-1 invariant-loop decreases-loop) where
+  abbrev at-loop : tie.At-loop-h invariant-loop decreases-loop
   at-loop = c.before.before.before
 
-  abbrev found : tie.After-find-positions invariant-loop decreases-loop
+  abbrev found : tie.After-find_positions invariant-loop decreases-loop
   found = at-loop.before.before.before
 
   abbrev start : tie.Start invariant-loop decreases-loop
@@ -68,132 +68,132 @@ module _ (c : tie.After-shared-slice-known2 invariant-loop decreases-loop) where
   w = start.args.word.now
 
   abbrev h : ℕ
-  h = at-loop.loop.h
+  h = at-loop.loop-h.h
 
   abbrev letter : ℕ
   letter = get_or w h 0
 
   inside : h < length w
-  inside = omega (arith, c.before.before.loop-test.true)
+  inside = omega (arith, c.before.before.loop-h-test.true)
 
   longer : h + 1 ≤ length w
   longer = omega (arith, inside)
 
   bounds : (first_letter ≤ letter) × (letter < first_letter + alphabet_size)
-  bounds = letter_at w h start.pre.all inside
+  bounds = letter_at w h start.requires.all inside
 
   abbrev k : ℕ
   k = get_or (get_or start.args.counts.now (h + 1) []) (letter - first_letter) 0
 
   read : k ≡ count letter (take (h + 1) w)
-  read = letter_counted start.pre h inside (h + 1) longer
+  read = letter_counted start.requires h inside (h + 1) longer
 
   some : 1 ≤ k
   some = omega (arith, read, count_here w h inside letter refl)
 
   abbrev at : ℕ
-  at = get_or (get_or found.find-positions.last.1.1.0 (letter - first_letter) []) (2 * k - 1) 0
+  at = get_or (get_or found.find_positions.new.found (letter - first_letter) []) (2 * k - 1) 0
 
   on-table : 2 * k - 1 ≤ longest
   on-table =
-      let small = letter_small start.pre h inside (h + 1) longer in
-      omega (arith, c.before.before.loop-test.true, start.pre.short)
+      let small = letter_small start.requires h inside (h + 1) longer in
+      omega (arith, c.before.before.loop-h-test.true, start.requires.short)
 
   position : at ≡ occurrence letter (2 * count letter (take (h + 1) w)) w
   position =
       let e : suc (2 * k - 1) ≡ 2 * count letter (take (h + 1) w) = omega (arith, some, read) in
-      letter_position start.pre h inside found.find-positions.ensures (2 * k - 1) on-table
+      letter_position start.requires h inside found.find_positions.ensures (2 * k - 1) on-table
       ∙ ap (λ (n : ℕ). occurrence letter n w) e
 
   -- the entry of the head
-  entry : c.before.lowest-period.result ≡ lowest_above h at-loop.loop.reach (greatest_gap (drop h w))
+  entry : c.before.lowest_period.result ≡ lowest_above h at-loop.loop-h.reach (greatest_gap (drop h w))
   entry =
-      c.before.lowest-period.ensures
-      ∙ ap (lowest_above h at-loop.loop.reach) (ap (λ (gaps : List ℕ). get_or gaps h 0) at-loop.before.greatest-gaps.ensures ∙ gaps_at w h (omega (arith, inside, start.pre.short)))
+      c.before.lowest_period.ensures
+      ∙ ap (lowest_above h at-loop.loop-h.reach) (ap (λ (gaps : List ℕ). get_or gaps h 0) at-loop.before.greatest_gaps-gaps.ensures ∙ gaps_at w h (omega (arith, inside, start.requires.short)))
 
   -- where there is no such position the table is whole, and where there is one a head more is found
-  ruled : at ≡ 0 → set at-loop.loop.lowest h c.before.lowest-period.result ≡ lowest_periods w
-  ruled = ruled_whole at-loop.loop.inv start.pre.all start.pre.short c.before.before.loop-test.true entry position
+  ruled : at ≡ 0 → set at-loop.loop-h.lowest h c.before.lowest_period.result ≡ lowest_periods w
+  ruled = ruled_whole at-loop.loop-h.invariant start.requires.all start.requires.short c.before.before.loop-h-test.true entry position
 
-  next : {reach : ℕ} → at ≢ 0 → reach ≡ max at-loop.loop.reach at → Heads w (set at-loop.loop.lowest h c.before.lowest-period.result) reach (h + 1)
-  next = next_head at-loop.loop.inv start.pre.all start.pre.short c.before.before.loop-test.true entry position
+  next : {reach : ℕ} → at ≢ 0 → reach ≡ max at-loop.loop-h.reach at → Heads w (set at-loop.loop-h.lowest h c.before.lowest_period.result) reach (h + 1)
+  next = next_head at-loop.loop-h.invariant start.requires.all start.requires.short c.before.before.loop-h-test.true entry position
 
-sub-place : tie.Need-overflow-sub-place invariant-loop decreases-loop
+sub-place : tie.Need-overflow_sub-place invariant-loop decreases-loop
 unfolding first_letter
 sub-place c = omega (arith, bounds c)
 
-cast-place : tie.Need-overflow-cast-place invariant-loop decreases-loop
+cast-place : tie.Need-overflow_cast-place invariant-loop decreases-loop
 unfolding first_letter alphabet_size
 cast-place c = omega (arith, bounds c)
 
-add-h : tie.Need-overflow-add-h invariant-loop decreases-loop
+add-h : tie.Need-overflow_add-h invariant-loop decreases-loop
 add-h c = search rules
 
-mul-c : tie.Need-overflow-mul-c invariant-loop decreases-loop
+mul-c : tie.Need-offset_bounds-counts-h invariant-loop decreases-loop
 unfolding longest
 mul-c c = search rules
 
-index-1-c : tie.Need-bounds-1-c invariant-loop decreases-loop
+index-1-c : tie.Need-bounds-counts-h invariant-loop decreases-loop
 unfolding longest
 index-1-c c = search rules
 
-index-2-c : tie.Need-bounds-2-c invariant-loop decreases-loop
+index-2-c : tie.Need-bounds-counts-place invariant-loop decreases-loop
 unfolding first_letter alphabet_size
 index-2-c c = omega (arith, bounds c)
 
-cast-c : tie.Need-overflow-cast-c invariant-loop decreases-loop
+cast-c : tie.Need-overflow_cast-c invariant-loop decreases-loop
 unfolding first_letter longest
 cast-c c = omega (arith, on-table c.before)
 
-mul_at : tie.Need-overflow-mul-at invariant-loop decreases-loop
+mul_at : tie.Need-overflow_mul-at invariant-loop decreases-loop
 unfolding first_letter longest
 mul_at c = omega (arith, on-table c.before)
 
-sub_at : tie.Need-overflow-sub-at invariant-loop decreases-loop
+sub_at : tie.Need-overflow_sub-at invariant-loop decreases-loop
 unfolding first_letter
 sub_at c = omega (arith, some c.before)
 
-mul-at-2 : tie.Need-overflow-mul-at-2 invariant-loop decreases-loop
+mul-at-2 : tie.Need-offset_bounds-select-place invariant-loop decreases-loop
 unfolding first_letter alphabet_size
 mul-at-2 c = omega (arith, bounds c.before)
 
-index-1-at : tie.Need-bounds-1-at invariant-loop decreases-loop
+index-1-at : tie.Need-bounds-select-place invariant-loop decreases-loop
 unfolding first_letter alphabet_size
 index-1-at c = omega (arith, bounds c.before)
 
-index-2-at : tie.Need-bounds-2-at invariant-loop decreases-loop
+index-2-at : tie.Need-bounds-select-c invariant-loop decreases-loop
 unfolding first_letter longest
 index-2-at c = omega (arith, on-table c.before)
 
-cast-at : tie.Need-overflow-cast-at invariant-loop decreases-loop
+cast-at : tie.Need-overflow_cast-at invariant-loop decreases-loop
 unfolding first_letter longest
 cast-at c =
     let d = c.before.before in
-    position_fits (start d).requires (h d) (inside d) (found d).find-positions.ensures _ (omega (arith, on-table d))
+    position_fits (start d).requires (h d) (inside d) (found d).find_positions.ensures _ (omega (arith, on-table d))
 
-returns : tie.Need-returns invariant-loop decreases-loop
+returns : tie.Need-returns-then-at-eq0 invariant-loop decreases-loop
 unfolding first_letter
-returns c = ruled c.before.before.before c.if1.true
+returns c = ruled c.before.before.before c.if-at-eq0.true
 
-loop-less : tie.Need-loop-smaller invariant-loop decreases-loop
+loop-less : tie.Need-loop-h-smaller-then-reach-at invariant-loop decreases-loop
 loop-less c = search rules
 
-loop-again : tie.Need-loop-preserved invariant-loop decreases-loop
+loop-again : tie.Need-loop-h-preserved-then-reach-at invariant-loop decreases-loop
 unfolding first_letter
-loop-again c = next c.before.before.before.before c.before.if1.false (omega arith)
+loop-again c = next c.before.before.before.before c.before.if-at-eq0.false (omega arith)
 
-loop-less-2 : tie.Need-loop-smaller-2 invariant-loop decreases-loop
+loop-less-2 : tie.Need-loop-h-smaller invariant-loop decreases-loop
 loop-less-2 c = search rules
 
-loop-again-2 : tie.Need-loop-preserved-2 invariant-loop decreases-loop
+loop-again-2 : tie.Need-loop-h-preserved invariant-loop decreases-loop
 unfolding first_letter
-loop-again-2 c = next c.before.before.before.before c.before.if1.false (omega arith)
+loop-again-2 c = next c.before.before.before.before c.before.if-at-eq0.false (omega arith)
 
-returns-2 : tie.Need-returns-2 invariant-loop decreases-loop
-returns-2 c = long_whole c.loop-test.false c.before.loop.invariant
+returns-2 : tie.Need-returns invariant-loop decreases-loop
+returns-2 c = long_whole c.loop-h-test.false c.before.loop-h.invariant
 
-pub lowest-periods-spec : {M : Type 1} → statement M
-lowest-periods-spec =
+pub lowest_periods_spec : {M : Type 1} → statement M
+lowest_periods_spec =
     tie.close
     (tie.spec
     invariant-loop
