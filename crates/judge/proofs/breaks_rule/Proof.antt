@@ -2,11 +2,11 @@
 use Rattle.judge.proofs.breaks_rule.Statement.{statement}
 use Rattle.judge.proofs.breaks_rule.Tie as tie
 
-returns : tie.Need-returns
-returns c = rw c.if1.true
+returns : tie.Need-returns-then-end
+returns c = rw c.if-end.true
 
-returns-2 : tie.Need-returns-2
-returns-2 c = rw c.if1.false
+returns-2 : tie.Need-returns-else-end
+returns-2 c = rw c.if-end.false
 
-pub breaks-rule-spec : {M : Type 1} → statement M
-breaks-rule-spec = tie.close (tie.spec returns returns-2)
+pub breaks_rule_spec : {M : Type 1} → statement M
+breaks_rule_spec = tie.close (tie.spec returns returns-2)

@@ -22,14 +22,14 @@ last-test n x l h =
     (λ t. let f : x.head ≤ n - x.period = leb→le x.head (n - x.period) t in range_in n x (record { positive = omega arith; below = h; fits = omega arith }))
     (λ t. le→leb x.head (n - x.period) (let r : InRange n x = in_range_lem n x t in omega arith))
 
-returns : tie.Need-returns
-returns c = let a = c.before.args in outside a.n (pair a.head.0 a.period.0) (λ r. omega (arith, r.fits, c.if1.true))
+returns : tie.Need-returns-then-n-p
+returns c = let a = c.before.args in outside a.n (pair a.head.0 a.period.0) (λ r. omega (arith, r.fits, c.if-n-p.true))
 
-returns-2 : tie.Need-returns-2
-returns-2 c = let a = c.before.before.args in last-test a.n (pair a.head.0 a.period.0) c.before.if1.false c.if2.true
+returns-2 : tie.Need-returns-then-h-p
+returns-2 c = let a = c.before.before.args in last-test a.n (pair a.head.0 a.period.0) c.before.if-n-p.false c.if-h-p.true
 
-returns-3 : tie.Need-returns-3
-returns-3 c = let a = c.before.before.args in le-ltb a.head.0 a.period.0 c.if2.false ∙ outside a.n (pair a.head.0 a.period.0) (λ r. omega (arith, r.below, c.if2.false))
+returns-3 : tie.Need-returns-else-h-p
+returns-3 c = let a = c.before.before.args in le-ltb a.head.0 a.period.0 c.if-h-p.false ∙ outside a.n (pair a.head.0 a.period.0) (λ r. omega (arith, r.below, c.if-h-p.false))
 
-pub in-range-spec : {M : Type 1} → statement M
-in-range-spec = tie.close (tie.spec returns returns-2 returns-3)
+pub in_range_spec : {M : Type 1} → statement M
+in_range_spec = tie.close (tie.spec returns returns-2 returns-3)

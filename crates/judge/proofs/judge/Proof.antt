@@ -14,16 +14,16 @@ use Rattle.judge.proofs.Answers.{judging_refused, judging_outside, judging_insid
 use Rattle.judge.proofs.judge.Statement.{statement}
 use Rattle.judge.proofs.judge.Tie as tie
 
-check-word-requires : tie.Need-check-word-requires
+check-word-requires : tie.Need-check_word-requires
 check-word-requires c κs = search rules
 
-enum-known-refusal : tie.Need-enum-known-refusal
+enum-known-refusal : tie.Need-enum_known-refusal
 enum-known-refusal c = search rules
 
-enum_told : tie.Need-enum-told
+enum_told : tie.Need-enum_told-1
 enum_told c = search rules
 
-in-range-requires : tie.Need-in-range-requires
+in-range-requires : tie.Need-in_range-requires
 in-range-requires c κs = search rules
 
 module _ (c : tie.Start) where
@@ -34,43 +34,42 @@ module _ (c : tie.Start) where
   x = pair c.args.head.0 c.args.period.0
 
 -- where `check_word` has accepted, the word has no refusal by itself
-module _ (c : tie.After-enum-told) where
+module _ (c : tie.In-Accepted) where
   abbrev s : tie.Start
-  s = c.before.before.before.before
+  s = c.before.before.before
 
   accepted : word_refusal (w s) false 0 0 ≡ none
-  accepted = accepted_none (word_refusal (w s) false 0 0) (sym c.before.before.check-word.ensures ∙ c.enum_told.given.1)
+  accepted = accepted_none (word_refusal (w s) false 0 0) (sym c.check_word.ensures ∙ c.in-Accepted.is)
 
-first-failure-requires : tie.Need-first-failure-requires
+first-failure-requires : tie.Need-first_failure-requires
 first-failure-requires c κs =
     let a = c.before.before in
     record {
       all = accepted_letters (w (s a)) (accepted a);
       short = accepted_length (w (s a)) (accepted a);
-      range = passes (in_range (length (w (s a))) (x (s a))) (sym c.before.in-range.ensures ∙ c.if1.true);
+      range = passes (in_range (length (w (s a))) (x (s a))) (sym c.before.in_range.ensures ∙ c.if-in_range.true);
     }
 
-returns : tie.Need-returns
+returns : tie.Need-returns-in-Refused
 returns c =
-    let v = c.before.before.before.before.before in
-    let r = c.before.refusal.given.0.0 in
-    sym (judging_refused (w v) (x v)
-    (refused_some (word_refusal (w v) false 0 0) r (sym c.before.before.before.check-word.ensures ∙ c.before.refusal.given.1)))
+    let v = c.before.before.before in
+    let r = c.in-Refused.refusal in
+    sym (judging_refused (w v) (x v) (refused_some (word_refusal (w v) false 0 0) r (sym c.check_word.ensures ∙ c.in-Refused.is)))
 
-returns-2 : tie.Need-returns-2
+returns-2 : tie.Need-returns-then-in_range
 returns-2 c =
     let i = c.before.before in
     let a = i.before in
-    c.first-failure.ensures ∙ sym (judging_inside (w (s a)) (x (s a)) (accepted a) (sym i.in-range.ensures ∙ c.before.if1.true))
+    c.first_failure.ensures ∙ sym (judging_inside (w (s a)) (x (s a)) (accepted a) (sym i.in_range.ensures ∙ c.before.if-in_range.true))
 
-returns-3 : tie.Need-returns-3
+returns-3 : tie.Need-returns-else-in_range
 returns-3 c =
     let i = c.before in
     let a = i.before in
-    sym (judging_outside (w (s a)) (x (s a)) (accepted a) (sym i.in-range.ensures ∙ c.if1.false))
+    sym (judging_outside (w (s a)) (x (s a)) (accepted a) (sym i.in_range.ensures ∙ c.if-in_range.false))
 
-pub judge-spec : {M : Type 1} → statement M
-judge-spec =
+pub judge_spec : {M : Type 1} → statement M
+judge_spec =
     tie.close
     (tie.spec
     check-word-requires
