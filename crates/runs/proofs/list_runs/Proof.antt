@@ -22,104 +22,100 @@ use Rattle.runs.proofs.list_runs.Statement.{statement}
 use Rattle.runs.proofs.list_runs.Tie as tie
 
 -- what is known once the word is accepted
-module _ (c : tie.After-enum-told) where
-  abbrev start : tie.Start
-  start = c.before.before.before.before.before
-
+module _ (c : tie.In_default) where
   abbrev w : List ℕ
-  w = start.args.word.now
+  w = c.args.word.now
 
   abbrev out : List ℕ
-  out = start.args.out.now
+  out = c.args.out.now
 
   accepted : word_refusal w false 0 0 ≡ none
-  accepted = accepted_none (word_refusal w false 0 0) (sym c.before.before.check-word.ensures ∙ c.enum_told.given.1)
+  accepted = accepted_none (word_refusal w false 0 0) (sym c.check_word.ensures ∙ c.in_default.is)
 
-check-word-requires : tie.Need-check-word-requires
+check-word-requires : tie.Need-check_word-requires
 check-word-requires c κs = search rules
 
-enum-known-refusal : tie.Need-enum-known-refusal
+enum-known-refusal : tie.Need-enum_known-refusal
 enum-known-refusal c = search rules
 
-returns : tie.Need-returns
+returns : tie.Need-returns-in-Refused
 unfolding run_listing
 returns c =
-    let at-start = c.before.before.before.before.before.before in
-    let word = at-start.args.word.now in
+    let word = c.args.word.now in
     sym
-    (listing_refused word at-start.args.out.now (run_words word) 0 0 0
-    (refused_some (word_refusal word false 0 0) c.before.refusal.given.0.0 (sym c.before.before.before.check-word.ensures ∙ c.before.refusal.given.1)))
+    (listing_refused word c.args.out.now (run_words word) 0 0 0
+    (refused_some (word_refusal word false 0 0) c.in-Refused.refusal (sym c.check_word.ensures ∙ c.in-Refused.is)))
 
-enum_told : tie.Need-enum-told
+enum_told : tie.Need-enum_told-1
 enum_told c = search rules
 
-count-prefixes-requires : tie.Need-count-prefixes-requires
+count-prefixes-requires : tie.Need-count_prefixes-requires
 unfolding longest
 count-prefixes-requires c κs = let told = c.before in (accepted_letters (w told) (accepted told), (accepted_length (w told) (accepted told), refl))
 
-slice-aggregate-mark-squares : tie.Need-slice-aggregate-mark-squares
+slice-aggregate-mark-squares : tie.Need-slice_bounds-mark_squares-end
 slice-aggregate-mark-squares c = search rules
 
 -- the table is that of the word's prefix counts
-counted : (c : tie.After-count-prefixes) → Counted (w c.before.before) c.count-prefixes.new.1.0
+counted : (c : tie.After-count_prefixes) → Counted (w c.before.before) c.count_prefixes.new.table
 counted c =
     let told = c.before.before in
-    record { all = accepted_letters (w told) (accepted told); short = accepted_length (w told) (accepted told); rows = c.count-prefixes.ensures }
+    record { all = accepted_letters (w told) (accepted told); short = accepted_length (w told) (accepted told); rows = c.count_prefixes.ensures }
 
-mark-squares-requires : tie.Need-mark-squares-requires
+mark-squares-requires : tie.Need-mark_squares-requires
 unfolding longest
 mark-squares-requires c κs =
     let told = c.before.before.before.before in
     (counted c.before.before, candidates_bound (w told) (accepted_length (w told) (accepted told)))
 
-slice-aggregate-count-words : tie.Need-slice-aggregate-count-words
+slice-aggregate-count-words : tie.Need-slice_bounds-count_words-end
 slice-aggregate-count-words c = search rules
 
 -- the marks are in the first places
-module _ (c : tie.After-mark-squares) where
+module _ (c : tie.After-mark_squares) where
   abbrev squares : List ℕ
   squares = square_marks (w c.before.before.before.before.before)
 
-  marked : take (length squares) c.mark-squares.new.1.1.0 ≡ squares
-  marked = ap (take (length squares)) c.mark-squares.ensures.1 ∙ take-fill squares _
+  marked : take (length squares) c.mark_squares.new.marks ≡ squares
+  marked = ap (take (length squares)) c.mark_squares.ensures.1 ∙ take-fill squares _
 
-count-words-requires : tie.Need-count-words-requires
+count-words-requires : tie.Need-count_words-needed-requires
 count-words-requires c κs =
     let told = c.before.before.before.before.before.before.before in
     (accepted_length (w told) (accepted told), marked c.before.before)
 
-returns-2 : tie.Need-returns-2
+returns-2 : tie.Need-returns-then-needed-out
 unfolding run_listing
 returns-2 c =
     let told = c.before.before.before.before.before.before.before.before.before in
-    let call = c.before.count-words in
-    counted_short (w told) (out told) (run_words (w told)) 0 0 0 (accepted told) call.result call.ensures c.if1.true
+    let call = c.before.count_words-needed in
+    counted_short (w told) (out told) (run_words (w told)) 0 0 0 (accepted told) call.result call.ensures c.if-needed-out.true
 
-slice-aggregate-write-runs : tie.Need-slice-aggregate-write-runs
+slice-aggregate-write-runs : tie.Need-slice_bounds-write_runs-end
 slice-aggregate-write-runs c = search rules
 
-write-runs-requires : tie.Need-write-runs-requires
+write-runs-requires : tie.Need-write_runs-requires
 write-runs-requires c κs =
     let counting = c.before.before.before.before in
     let marking = counting.before.before.before in (
       counted marking.before.before.before,
-      (marked marking, omega (arith, counting.count-words.ensures, c.before.before.before.if1.false)),
+      (marked marking, omega (arith, counting.count_words-needed.ensures, c.before.before.before.if-needed-out.false)),
     )
 
-same_length : tie.Need-same-length
+same_length : tie.Need-shape_of-out
 same_length c = search rules
 
-returns-3 : tie.Need-returns-3
+returns-3 : tie.Need-returns
 unfolding run_listing
 returns-3 c =
     let counting = c.before.before.before.before.before.before.before in
     let told = counting.before.before.before.before.before.before.before.before in
-    ap (writing counting.count-words.result 0 0 0) c.before.before.write-runs.ensures
-    ∙ counted_written (w told) (out told) (run_words (w told)) 0 0 0 (accepted told) counting.count-words.result counting.count-words.ensures
-    c.before.before.before.before.before.before.if1.false
+    ap (writing counting.count_words-needed.result 0 0 0) c.before.before.write_runs.ensures
+    ∙ counted_written (w told) (out told) (run_words (w told)) 0 0 0 (accepted told) counting.count_words-needed.result counting.count_words-needed.ensures
+    c.before.before.before.before.before.before.if-needed-out.false
 
-pub list-runs-spec : {M : Type 1} → statement M
-list-runs-spec =
+pub list_runs_spec : {M : Type 1} → statement M
+list_runs_spec =
     tie.close
     (tie.spec
     check-word-requires

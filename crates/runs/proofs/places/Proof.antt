@@ -7,5 +7,5 @@ use Rattle.runs.proofs.places.Tie as tie
 returns : tie.Need-returns
 returns c w h = omega (arith, places_enough w h, bound_number)
 
-pub places-spec : {M : Type 1} → statement M
-places-spec = tie.close (tie.spec returns)
+pub places_spec : {M : Type 1} → statement M
+places_spec = tie.close (tie.spec returns)

@@ -29,68 +29,68 @@ module _ (c : tie.Start) where
   size = c.args.size
 
 -- there are as many letters on that side
-module _ (c : tie.Then1) where
+module _ (c : tie.Then-before) where
   abbrev s : tie.Start
   s = c.before.before
 
   before-there : size s ≤ at s
-  before-there = subst (λ (b : Bool). size s ≤ room (w s) b (at s)) c.if1.true s.pre.1.1
+  before-there = subst (λ (b : Bool). size s ≤ room (w s) b (at s)) c.if-before.true s.requires.1.1
 
   back : at s ≡ at s - size s + size s
   back = omega (arith, before-there)
 
-module _ (c : tie.Else1) where
+module _ (c : tie.Else-before) where
   abbrev t : tie.Start
   t = c.before.before
 
   behind-there : at t + size t ≤ length (w t)
-  behind-there = omega (arith, t.pre.1.0, subst (λ (b : Bool). size t ≤ room (w t) b (at t)) c.if1.false t.pre.1.1)
+  behind-there = omega (arith, t.requires.1.0, subst (λ (b : Bool). size t ≤ room (w t) b (at t)) c.if-before.false t.requires.1.1)
 
 row-requires : tie.Need-row-requires
 row-requires c κs = omega (arith, (counted (s c)).short, (s c).requires.1.0)
 
-sub_row : tie.Need-overflow-sub-row
+sub_row : tie.Need-overflow_sub-at
 sub_row c = before-there c.before
 
-row-requires-2 : tie.Need-row-requires-2
-row-requires-2 c κs = omega (arith, (counted (s c.before)).short, (s c.before).pre.1.0)
+row-requires-2 : tie.Need-row-requires-then-before
+row-requires-2 c κs = omega (arith, (counted (s c.before)).short, (s c.before).requires.1.0)
 
 difference-requires : tie.Need-difference-requires
 difference-requires c κs =
     let d = c.before.before in
-    counted_rises (counted (s d)) _ _ c.before.row.ensures c.row2.ensures (omega arith) (s d).requires.1.0
+    counted_rises (counted (s d)) _ _ c.before.row.ensures c.row-then-before.ensures (omega arith) (s d).requires.1.0
 
-add_row : tie.Need-overflow-add-row
+add_row : tie.Need-overflow_add-at
 add_row c = omega (arith, behind-there c)
 
-row-requires-3 : tie.Need-row-requires-3
+row-requires-3 : tie.Need-row-requires-else-before
 row-requires-3 c κs = omega (arith, (counted (t c)).short, behind-there c)
 
-row-requires-4 : tie.Need-row-requires-4
-row-requires-4 c κs = omega (arith, (counted (t c.before)).short, (t c.before).pre.1.0)
+row-requires-4 : tie.Need-row-requires-else-before-2
+row-requires-4 c κs = omega (arith, (counted (t c.before)).short, (t c.before).requires.1.0)
 
-difference-requires-2 : tie.Need-difference-requires-2
+difference-requires-2 : tie.Need-difference-requires-else-before
 difference-requires-2 c κs =
     let d = c.before.before in
-    counted_rises (counted (t d)) _ _ c.before.row3.ensures c.row4.ensures (omega arith) (behind-there d)
+    counted_rises (counted (t d)) _ _ c.before.row-else-before.ensures c.row-else-before-2.ensures (omega arith) (behind-there d)
 
-returns : tie.Need-returns
+returns : tie.Need-returns-then-before
 returns c =
     let r = c.before in
     let d = r.before.before in
-    counted_part (counted (s d)) (at (s d) - size (s d)) (size (s d)) (rw (back d) at r.before.row.ensures) r.row2.ensures
+    counted_part (counted (s d)) (at (s d) - size (s d)) (size (s d)) (rw (back d) at r.before.row.ensures) r.row-then-before.ensures
     (omega (arith, back d, (s d).requires.1.0)) c.difference.ensures
-    ∙ ap (λ (b : Bool). padded (vector (beside (w (s d)) b (at (s d)) (size (s d))))) (sym d.if1.true)
+    ∙ ap (λ (b : Bool). padded (vector (beside (w (s d)) b (at (s d)) (size (s d))))) (sym d.if-before.true)
 
-returns-2 : tie.Need-returns-2
+returns-2 : tie.Need-returns-else-before
 returns-2 c =
     let r = c.before in
     let d = r.before.before in
-    counted_part (counted (t d)) (at (t d)) (size (t d)) r.before.row3.ensures r.row4.ensures (behind-there d) c.difference2.ensures
-    ∙ ap (λ (b : Bool). padded (vector (beside (w (t d)) b (at (t d)) (size (t d))))) (sym d.if1.false)
+    counted_part (counted (t d)) (at (t d)) (size (t d)) r.before.row-else-before.ensures r.row-else-before-2.ensures (behind-there d) c.difference-else-before.ensures
+    ∙ ap (λ (b : Bool). padded (vector (beside (w (t d)) b (at (t d)) (size (t d))))) (sym d.if-before.false)
 
-pub count-beside-spec : {M : Type 1} → statement M
-count-beside-spec =
+pub count_beside_spec : {M : Type 1} → statement M
+count_beside_spec =
     tie.close
     (tie.spec
     row-requires

@@ -1,7 +1,6 @@
 -- `runs::hands::hand` meets its contract. The invariant of its loop: a stretch of `hand` letters is contained in the block, and none of `past` letters or
 -- more. The measure is the lengths between them. Assumes nothing.
 use mathlib.Core.Path.{◌≡◌, sym, ap, ◌∙◌}
-use mathlib.Core.Logic.{⊎_elim}
 use mathlib.Core.Bool.{Bool, not}
 use mathlib.Core.List.{List}
 use Prim.Native.Nat.{ℕ, ◌+◌, ◌-◌, ◌/◌}
@@ -16,20 +15,21 @@ use Rattle.runs.specs.Hands.{beside}
 use Rattle.runs.proofs.Halving.{Placed, Halving, halving_first, halving_down, halving_up, halving_done}
 use Rattle.runs.proofs.hands.hand.Statement.{statement}
 use Rattle.runs.proofs.hands.hand.Tie as tie
+use Rattle.runs.proofs.hands.hand.Lts.{then-letters-period, else-letters-period}
 
-abbrev invariant-loop : tie.invariant-loop
+abbrev invariant-loop : tie.invariant-loop-hand
 invariant-loop word table period start before at from block letters hand₀ past₀ hand past = Halving word period start before at hand past
 
-abbrev decreases-loop : tie.decreases-loop
+abbrev decreases-loop : tie.decreases-loop-hand
 decreases-loop word table period start before at from block letters hand₀ past₀ hand past = past - hand
 
 placed : (c : tie.Start invariant-loop decreases-loop) → Placed c.args.word.now c.args.period c.args.start c.args.at
 placed c = record { letters = c.requires.0.all; start = c.requires.1.0.1; whole = c.requires.1.0.2; inside = c.requires.1.1 }
 
-sub-from : tie.Need-overflow-sub-from invariant-loop decreases-loop
+sub-from : tie.Need-overflow_sub-from invariant-loop decreases-loop
 sub-from c = search rules
 
-add_row : tie.Need-overflow-add-row invariant-loop decreases-loop
+add_row : tie.Need-overflow_add-from invariant-loop decreases-loop
 add_row c = search rules
 
 row-requires : tie.Need-row-requires invariant-loop decreases-loop
@@ -38,33 +38,34 @@ row-requires c κs = search rules
 row-requires-2 : tie.Need-row-requires-2 invariant-loop decreases-loop
 row-requires-2 c κs = search rules
 
-difference-requires : tie.Need-difference-requires invariant-loop decreases-loop
+difference-requires : tie.Need-difference-block-requires invariant-loop decreases-loop
 difference-requires c κs =
     let start = c.before.before.before in
-    counted_rises start.requires.0 _ _ c.before.row.ensures c.row2.ensures (omega arith) (omega (arith, start.requires.1.0))
+    counted_rises start.requires.0 _ _ c.before.row.ensures c.row-2.ensures (omega arith) (omega (arith, start.requires.1.0))
 
-letters-beside-requires : tie.Need-letters-beside-requires invariant-loop decreases-loop
+letters-beside-requires : tie.Need-letters_beside-letters-requires invariant-loop decreases-loop
 letters-beside-requires c κs = search rules
 
-add-past : tie.Need-overflow-add-past invariant-loop decreases-loop
+add-past : tie.Need-overflow_add-past invariant-loop decreases-loop
 add-past c = search rules
 
-loop-holds : tie.Need-loop-init invariant-loop decreases-loop
+loop-holds : tie.Need-loop-hand-init invariant-loop decreases-loop
 loop-holds c =
     let start = c.before.before.before.before.before.before in
     halving_first start.args.word.now start.args.period start.args.start start.args.before start.args.at (placed start)
-    c.if1.past start.requires.1.0.0
-    (⊎_elim (λ t. omega (arith, t.0.taken, t.1, c.before.letters-beside.ensures))
-    (λ t. omega (arith, t.0.left, t.1, c.before.letters-beside.ensures))
-    c.if1.branch)
+    c.if-letters-period.past start.requires.1.0.0
+    (elim c.if-letters-period.branch [
+      | then-letters-period t ↦ omega (arith, t.if-letters-period.true, t.past-is, c.letters_beside-letters.ensures)
+      | else-letters-period t ↦ omega (arith, t.if-letters-period.false, t.past-is, c.letters_beside-letters.ensures)
+    ])
 
-add-loop : tie.Need-overflow-add-loop invariant-loop decreases-loop
+add-loop : tie.Need-overflow_add-hand invariant-loop decreases-loop
 add-loop c = search rules
 
-add-middle : tie.Need-overflow-add-middle invariant-loop decreases-loop
+add-middle : tie.Need-overflow_add-middle invariant-loop decreases-loop
 add-middle c = search rules
 
-count-beside-requires : tie.Need-count-beside-requires invariant-loop decreases-loop
+count-beside-requires : tie.Need-count_beside-requires invariant-loop decreases-loop
 count-beside-requires c κs = search rules
 
 exceeds-requires : tie.Need-exceeds-requires invariant-loop decreases-loop
@@ -72,7 +73,7 @@ exceeds-requires c κs = search rules
 
 -- what is known once the stretch in the middle is compared with the block
 module _ (c : tie.After-exceeds invariant-loop decreases-loop) where
-  abbrev at-loop : tie.At-loop invariant-loop decreases-loop
+  abbrev at-loop : tie.At-loop-hand invariant-loop decreases-loop
   at-loop = c.before.before.before.before
 
   abbrev start : tie.Start invariant-loop decreases-loop
@@ -94,10 +95,10 @@ module _ (c : tie.After-exceeds invariant-loop decreases-loop) where
   at = start.args.at
 
   abbrev hand : ℕ
-  hand = at-loop.loop.hand
+  hand = at-loop.loop-hand.hand
 
   abbrev past : ℕ
-  past = at-loop.loop.past
+  past = at-loop.loop-hand.past
 
   abbrev middle : ℕ
   middle = (hand + past) / 2
@@ -110,37 +111,37 @@ module _ (c : tie.After-exceeds invariant-loop decreases-loop) where
   compared =
       let first = at-loop.before.before.before in
       c.exceeds.ensures
-      ∙ ap not (none_above_rows (beside w before at middle) (part w (i - 1) d) c.before.count-beside.ensures
-      (counted_part start.pre.0 (i - 1) d first.before.before.row.ensures first.before.row2.ensures (omega (arith, start.pre.1.0))
-      first.difference.ensures))
+      ∙ ap not (none_above_rows (beside w before at middle) (part w (i - 1) d) c.before.count_beside.ensures
+      (counted_part start.requires.0 (i - 1) d first.before.before.row.ensures first.before.row-2.ensures (omega (arith, start.requires.1.0))
+      first.difference-block.ensures))
 
   -- the lengths are halved either way
   down : (T fits → ⊥) → Halving w d i before at hand middle
-  down = halving_down w d i before at (placed start) hand past at-loop.loop.inv middle (omega arith) (omega arith)
+  down = halving_down w d i before at (placed start) hand past at-loop.loop-hand.invariant middle (omega arith) (omega arith)
 
   up : T fits → Halving w d i before at middle past
-  up = halving_up w d i before at (placed start) hand past at-loop.loop.inv middle (omega arith) (omega arith)
+  up = halving_up w d i before at (placed start) hand past at-loop.loop-hand.invariant middle (omega arith) (omega arith)
 
-loop-less : tie.Need-loop-smaller invariant-loop decreases-loop
+loop-less : tie.Need-loop-hand-smaller-then-exceeds invariant-loop decreases-loop
 loop-less c = search rules
 
-loop-again : tie.Need-loop-preserved invariant-loop decreases-loop
-loop-again c = down c.before (fails (fits c.before) (not-true (fits c.before) (sym (compared c.before) ∙ c.if2.true)))
+loop-again : tie.Need-loop-hand-preserved-then-exceeds invariant-loop decreases-loop
+loop-again c = down c.before (fails (fits c.before) (not-true (fits c.before) (sym (compared c.before) ∙ c.if-exceeds.true)))
 
-loop-less-2 : tie.Need-loop-smaller-2 invariant-loop decreases-loop
+loop-less-2 : tie.Need-loop-hand-smaller invariant-loop decreases-loop
 loop-less-2 c = search rules
 
-loop-again-2 : tie.Need-loop-preserved-2 invariant-loop decreases-loop
-loop-again-2 c = up c.before (passes (fits c.before) (not-false (fits c.before) (sym (compared c.before) ∙ c.if2.false)))
+loop-again-2 : tie.Need-loop-hand-preserved invariant-loop decreases-loop
+loop-again-2 c = up c.before (passes (fits c.before) (not-false (fits c.before) (sym (compared c.before) ∙ c.if-exceeds.false)))
 
 returns : tie.Need-returns invariant-loop decreases-loop
 returns c =
     let start = c.before.before.before.before.before.before.before.before in
     halving_done start.args.word.now start.args.period start.args.start start.args.before start.args.at (placed start)
-    c.before.loop.hand c.before.loop.past c.before.loop.invariant (omega arith)
+    c.before.loop-hand.hand c.before.loop-hand.past c.before.loop-hand.invariant (omega arith)
 
-pub hand-spec : {M : Type 1} → statement M
-hand-spec =
+pub hand_spec : {M : Type 1} → statement M
+hand_spec =
     tie.close
     (tie.spec
     invariant-loop

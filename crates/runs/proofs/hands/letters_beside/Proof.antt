@@ -6,16 +6,16 @@ use borrow.Author.Rules.{rules}
 use Rattle.runs.proofs.hands.letters_beside.Statement.{statement}
 use Rattle.runs.proofs.hands.letters_beside.Tie as tie
 
-sub-result : tie.Need-overflow-sub-result
+sub-result : tie.Need-overflow_sub-result
 sub-result c = search rules
 
-returns : tie.Need-returns
+returns : tie.Need-returns-then-before
 returns c = search rules
 
-returns-2 : tie.Need-returns-2
+returns-2 : tie.Need-returns-else-before
 returns-2 c =
     let start = c.before in
-    ap (λ (b : Bool). room start.args.word.now b start.args.at) (sym c.if1.false)
+    ap (λ (b : Bool). room start.args.word.now b start.args.at) (sym c.if-before.false)
 
-pub letters-beside-spec : {M : Type 1} → statement M
-letters-beside-spec = tie.close (tie.spec sub-result returns returns-2)
+pub letters_beside_spec : {M : Type 1} → statement M
+letters_beside_spec = tie.close (tie.spec sub-result returns returns-2)

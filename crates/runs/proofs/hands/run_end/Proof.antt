@@ -1,12 +1,13 @@
 -- `runs::hands::run_end` meets its contract. The invariant of its loop: the squares from the start to `last` stand one block behind the other. The measure
 -- is the candidates that are left. Assumes nothing.
 use mathlib.Core.Path.{◌≡◌, sym, ap, ◌∙◌}
-use mathlib.Core.Logic.{⊎_elim}
 use mathlib.Core.Bool.{true, false}
 use mathlib.Core.List.{List}
 use Prim.Native.Nat.{ℕ, suc, ◌+◌, ◌-◌, ◌*◌, ◌≤◌}
 use native.Mathlib.Omega.{arith}
-use lib.ListN.{length}
+use lib.Dec.{eqb}
+use lib.ListN.{length, get_or}
+use borrow.Author.Tests.{eq-eqb, ne_eqb}
 use borrow.Author.Rules.{rules}
 use Rattle.abelian.specs.Squares.{is_square}
 use Rattle.abelian.proofs.Tests.{passes, fails}
@@ -15,6 +16,7 @@ use Rattle.runs.proofs.Marks.{mark_told}
 use Rattle.runs.proofs.Chains.{Chain, chain_one, chain_more, chain_end}
 use Rattle.runs.proofs.hands.run_end.Statement.{statement}
 use Rattle.runs.proofs.hands.run_end.Tie as tie
+use Rattle.runs.proofs.hands.run_end.Lts.{then-loop-last-test+else-marks-last-eq1, else-loop-last-test}
 
 -- the squares of half length d from i to `last` are a chain, and `last` is a candidate
 record Following (w marks : List ℕ) (d i last : ℕ) : Type 0 where
@@ -23,13 +25,13 @@ record Following (w marks : List ℕ) (d i last : ℕ) : Type 0 where
   size : length marks ≡ suc (length w) - 2 * d
   chain : Chain w d i last
 
-abbrev invariant-loop : tie.invariant-loop
+abbrev invariant-loop : tie.invariant-loop-last
 invariant-loop word marks period start last₀ last = Following word marks period start last
 
-abbrev decreases-loop : tie.decreases-loop
+abbrev decreases-loop : tie.decreases-loop-last
 decreases-loop word marks period start last₀ last = length marks - last
 
-loop-holds : tie.Need-loop-init invariant-loop decreases-loop
+loop-holds : tie.Need-loop-last-init invariant-loop decreases-loop
 loop-holds c =
     let w = c.args.word.now in
     let d = c.args.period in
@@ -41,33 +43,34 @@ loop-holds c =
       chain = chain_one w d c.args.start c.requires.1.0.1 (omega (arith, c.requires.1.0.2)) c.requires.1.1;
     }
 
-add-loop : tie.Need-overflow-add-loop invariant-loop decreases-loop
+add-loop : tie.Need-overflow_add-last invariant-loop decreases-loop
 add-loop c = search rules
 
-add-if1 : tie.Need-overflow-add-if1 invariant-loop decreases-loop
+add-if1 : tie.Need-overflow_add-last-in-loop-last invariant-loop decreases-loop
 add-if1 c = search rules
 
-sub-if1 : tie.Need-overflow-sub-if1 invariant-loop decreases-loop
+sub-if1 : tie.Need-overflow_sub-last invariant-loop decreases-loop
 sub-if1 c = search rules
 
-shared-slice-read-if1 : tie.Need-shared-slice-read-if1 invariant-loop decreases-loop
+shared-slice-read-if1 : tie.Need-bounds-marks-last invariant-loop decreases-loop
 shared-slice-read-if1 c = search rules
 
-add-last : tie.Need-overflow-add-last invariant-loop decreases-loop
+add-last : tie.Need-overflow_add-last-in-loop-last-2 invariant-loop decreases-loop
 add-last c = search rules
 
-loop-less : tie.Need-loop-smaller invariant-loop decreases-loop
+loop-less : tie.Need-loop-last-smaller invariant-loop decreases-loop
 loop-less c = search rules
 
-loop-again : tie.Need-loop-preserved invariant-loop decreases-loop
+loop-again : tie.Need-loop-last-preserved invariant-loop decreases-loop
 loop-again c =
     let at-loop = c.before.before.before in
     let start = at-loop.before in
     let w = start.args.word.now in
     let d = start.args.period in
-    let last = at-loop.loop.last in
-    let h = at-loop.loop.invariant in
-    let told : is_square w d (last + d) ≡ true = sym (mark_told w start.args.marks.now d (last + d) start.requires.0 (omega arith) (omega arith)) ∙ c.if1.true in
+    let last = at-loop.loop-last.last in
+    let h = at-loop.loop-last.invariant in
+    let marked : eqb (get_or start.args.marks.now (last + d - 1) 0) 1 ≡ true = eq-eqb _ 1 c.if-marks-last-eq1.true in
+    let told : is_square w d (last + d) ≡ true = sym (mark_told w start.args.marks.now d (last + d) start.requires.0 (omega arith) (omega arith)) ∙ marked in
     record {
       within = omega arith;
       later = omega (arith, h.later);
@@ -75,13 +78,13 @@ loop-again c =
       chain = chain_more w d start.args.start start.requires.1.0.1 last h.chain (omega (arith, h.size)) (passes (is_square w d (last + d)) told);
     }
 
-sub-result : tie.Need-overflow-sub-result invariant-loop decreases-loop
+sub-result : tie.Need-overflow_sub-result invariant-loop decreases-loop
 sub-result c = search rules
 
-mul-result : tie.Need-overflow-mul-result invariant-loop decreases-loop
+mul-result : tie.Need-overflow_mul-result invariant-loop decreases-loop
 mul-result c = search rules
 
-add-result : tie.Need-overflow-add-result invariant-loop decreases-loop
+add-result : tie.Need-overflow_add-result invariant-loop decreases-loop
 add-result c = search rules
 
 returns : tie.Need-returns invariant-loop decreases-loop
@@ -89,18 +92,19 @@ returns c =
     let start = c.before.before in
     let w = start.args.word.now in
     let d = start.args.period in
-    let last = c.before.loop.last in
-    let h = c.before.loop.invariant in
+    let last = c.before.loop-last.last in
+    let h = c.before.loop-last.invariant in
     chain_end w d start.args.start start.requires.1.0.1 last h.chain start.requires.1.0.0 (λ l t.
-    ⊎_elim
-    (λ e.
-    let told : is_square w d (last + d) ≡ false = sym (mark_told w start.args.marks.now d (last + d) start.requires.0 (omega arith) e.0.taken) ∙ e.2.left in
-    fails (is_square w d (last + d)) told t)
-    (λ e. omega (arith, h.size, e.left))
-    c.loop-test.branch)
+    elim c.loop-last-test.branch [
+      | then-loop-last-test+else-marks-last-eq1 e ↦
+          let unmarked : eqb (get_or start.args.marks.now (last + d - 1) 0) 1 ≡ false = ne_eqb _ 1 e.if-marks-last-eq1.false in
+          let told : is_square w d (last + d) ≡ false = sym (mark_told w start.args.marks.now d (last + d) start.requires.0 (omega arith) e.loop-last-test.true) ∙ unmarked in
+          fails (is_square w d (last + d)) told t
+      | else-loop-last-test e ↦ omega (arith, h.size, e.loop-last-test.false)
+    ])
 
-pub run-end-spec : {M : Type 1} → statement M
-run-end-spec =
+pub run_end_spec : {M : Type 1} → statement M
+run_end_spec =
     tie.close
     (tie.spec
     invariant-loop

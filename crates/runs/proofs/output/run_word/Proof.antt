@@ -5,23 +5,23 @@ use Rattle.abelian.specs.Output.{output_word, run_word}
 use Rattle.runs.proofs.output.run_word.Statement.{statement}
 use Rattle.runs.proofs.output.run_word.Tie as tie
 
-cast-result : tie.Need-overflow-cast-result
+cast-result : tie.Need-overflow_cast-result
 unfolding longest
 cast-result c = omega arith
 
-mul-result : tie.Need-overflow-mul-result
+mul-result : tie.Need-overflow_mul-result
 unfolding longest
 mul-result c = omega arith
 
-add-result : tie.Need-overflow-add-result
+add-result : tie.Need-overflow_add-result
 unfolding longest
 add-result c = omega arith
 
-cast-result-2 : tie.Need-overflow-cast-result-2
+cast-result-2 : tie.Need-overflow_cast-result-2
 unfolding longest
 cast-result-2 c = omega arith
 
-add-result-2 : tie.Need-overflow-add-result-2
+add-result-2 : tie.Need-overflow_add-result-2
 unfolding longest
 add-result-2 c = omega arith
 
@@ -29,6 +29,6 @@ returns : tie.Need-returns
 unfolding run_word output_word
 returns c = omega arith
 
-pub run-word-spec : {M : Type 1} → statement M
-run-word-spec =
+pub run_word_spec : {M : Type 1} → statement M
+run_word_spec =
     tie.close (tie.spec cast-result mul-result add-result cast-result-2 add-result-2 returns)

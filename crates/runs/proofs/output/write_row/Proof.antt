@@ -28,13 +28,13 @@ record Writing (w : List ℕ) (d : ℕ) (marks before out : List ℕ) (at s : �
   few : at ≤ 2 * s
   written : out ≡ fill (words_up_to w d s) before
 
-abbrev invariant-loop : tie.invariant-loop
+abbrev invariant-loop : tie.invariant-loop-start
 invariant-loop word table marks period out₀ at₀ start₀ out at start = Writing word period marks out₀ out at start
 
-abbrev decreases-loop : tie.decreases-loop
+abbrev decreases-loop : tie.decreases-loop-start
 decreases-loop word table marks period out₀ at₀ start₀ out at start = length marks - start
 
-loop-holds : tie.Need-loop-init invariant-loop decreases-loop
+loop-holds : tie.Need-loop-start-init invariant-loop decreases-loop
 unfolding fill
 loop-holds c =
     let start = c.before.before.before in
@@ -48,8 +48,8 @@ loop-holds c =
     }
 
 -- a run starts at the next start
-module _ (c : tie.Then1 invariant-loop decreases-loop) where
-  abbrev at-loop : tie.At-loop invariant-loop decreases-loop
+module _ (c : tie.Then-starts_run invariant-loop decreases-loop) where
+  abbrev at-loop : tie.At-loop-start invariant-loop decreases-loop
   at-loop = c.before.before.before
 
   abbrev start : tie.Start invariant-loop decreases-loop
@@ -62,10 +62,10 @@ module _ (c : tie.Then1 invariant-loop decreases-loop) where
   d = start.args.period
 
   abbrev s : ℕ
-  s = at-loop.loop.start
+  s = at-loop.loop-start.start
 
   begins : starts_run w d (s + 1) ≡ true
-  begins = sym c.before.starts-run.ensures ∙ c.if1.true
+  begins = sym c.before.starts_run.ensures ∙ c.if-starts_run.true
 
   -- it has two words
   words-two : length (words_up_to w d (s + 1)) ≡ length (words_up_to w d s) + 2
@@ -73,75 +73,75 @@ module _ (c : tie.Then1 invariant-loop decreases-loop) where
   words-two = omega (arith, ap length (words_one_more w d s begins), length-append (words_up_to w d s) (words_of_run (run_at w d (s + 1))))
 
   -- which have places
-  room-left : at-loop.loop.at + 2 ≤ length at-loop.loop.out
+  room-left : at-loop.loop-start.at + 2 ≤ length at-loop.loop-start.out
   room-left =
-      let h = at-loop.loop.inv in
-      omega (arith, words-two, words_rise w d (s + 1) (omega (arith, h.all, c.before.before.loop-test.true)), h.reached, h.size, start.pre.1.1.1)
+      let h = at-loop.loop-start.invariant in
+      omega (arith, words-two, words_rise w d (s + 1) (omega (arith, h.all, c.before.before.loop-start-test.true)), h.reached, h.size, start.requires.1.1.1)
 
-add_start : tie.Need-overflow-add-start invariant-loop decreases-loop
+add_start : tie.Need-overflow_add-start invariant-loop decreases-loop
 add_start c = search rules
 
-starts-run-requires : tie.Need-starts-run-requires invariant-loop decreases-loop
+starts-run-requires : tie.Need-starts_run-requires invariant-loop decreases-loop
 starts-run-requires c κs = search rules
 
-mul-write-run : tie.Need-overflow-mul-write-run invariant-loop decreases-loop
+mul-write-run : tie.Need-offset_bounds-out-at invariant-loop decreases-loop
 unfolding longest
 mul-write-run c = search rules
 
-sub-write-run : tie.Need-overflow-sub-write-run invariant-loop decreases-loop
+sub-write-run : tie.Need-slice_bounds-write_run-count invariant-loop decreases-loop
 sub-write-run c = omega (arith, room-left c)
 
-part-write-run-start : tie.Need-slice-bounds-write-run-start invariant-loop decreases-loop
+part-write-run-start : tie.Need-slice_bounds-write_run-start invariant-loop decreases-loop
 part-write-run-start c = omega (arith, room-left c)
 
-part-write-run-end : tie.Need-slice-bounds-write-run-end invariant-loop decreases-loop
+part-write-run-end : tie.Need-slice_bounds-write_run-end invariant-loop decreases-loop
 part-write-run-end c = search rules
 
-write-run-requires : tie.Need-write-run-requires invariant-loop decreases-loop
+write-run-requires : tie.Need-write_run-requires invariant-loop decreases-loop
 write-run-requires c κs =
     let at-loop = c.before.before.before.before in
     let start = at-loop.before.before.before.before in
-    let out = at-loop.loop.out in
-    let at = at-loop.loop.at in (
+    let out = at-loop.loop-start.out in
+    let at = at-loop.loop-start.at in (
       start.requires.0,
       (
         start.requires.1.0,
         (
-          (start.requires.1.1.0, omega arith, omega (arith, c.before.before.before.loop-test.true)),
+          (start.requires.1.1.0, omega arith, omega (arith, c.before.before.before.loop-start-test.true)),
           (
-            starts_square start.args.word.now start.args.period (at-loop.loop.start + 1) (begins c.before),
+            starts_square start.args.word.now start.args.period (at-loop.loop-start.start + 1) (begins c.before),
             omega (arith, room-left c.before, length-take (length out - at) (drop at out), length-drop at out),
           ),
         ),
       ),
     )
 
-add_at : tie.Need-overflow-add-at invariant-loop decreases-loop
+add_at : tie.Need-overflow_add-at invariant-loop decreases-loop
 unfolding longest
 add_at c = search rules
 
-loop-less : tie.Need-loop-smaller invariant-loop decreases-loop
+loop-less : tie.Need-loop-start-smaller-then-starts_run invariant-loop decreases-loop
 loop-less c = search rules
 
-loop-again : tie.Need-loop-preserved invariant-loop decreases-loop
+loop-again : tie.Need-loop-start-preserved-then-starts_run invariant-loop decreases-loop
 loop-again c =
     let taken = c.before.before.before.before in
     let at-loop = taken.before.before.before in
     let start = at-loop.before.before.before.before in
-    let call = c.before.before.write-run in
+    let call = c.before.before.write_run in
     let w = start.args.word.now in
     let d = start.args.period in
-    let s = at-loop.loop.start in
+    let s = at-loop.loop-start.start in
     let before : List ℕ = start.args.out.now in
-    let out = at-loop.loop.out in
-    let at = at-loop.loop.at in
-    let h : Writing w d start.args.marks.now before out at s = at-loop.loop.invariant in
+    let out = at-loop.loop-start.out in
+    let at = at-loop.loop-start.at in
+    let h : Writing w d start.args.marks.now before out at s = at-loop.loop-start.invariant in
     let more : words_up_to w d (s + 1) ≡ words_up_to w d s ++ words_of_run (run_at w d (s + 1)) = words_one_more w d s (begins taken) in
-    let written : put_mid at (length out - at) out call.new.1.1.1.1.1.0 ≡ fill (words_up_to w d (s + 1)) before =
-    fill_lent (words_up_to w d s) (words_of_run (run_at w d (s + 1))) before out call.new.1.1.1.1.1.0 at h.written h.reached call.ensures
+    let written : put_mid at (length out - at) out call.new.out ≡ fill (words_up_to w d (s + 1)) before =
+    fill_lent (words_up_to w d s) (words_of_run (run_at w d (s + 1))) before out call.new.out at h.written h.reached call.ensures
     ∙ ap (λ (l : List ℕ). fill l before) (sym more) in
     record {
-      within = omega (arith, taken.before.before.loop-test.true);
+      within = omega (arith, taken.before.before.loop-start-test.true);
       size = ap length written ∙ length-fill (words_up_to w d (s + 1)) before (omega (arith, room-left taken, words-two taken, h.size, h.reached));
       all = h.all;
       reached = omega (arith, words-two taken, h.reached);
@@ -149,20 +149,20 @@ loop-again c =
       written = written;
     }
 
-loop-less-2 : tie.Need-loop-smaller-2 invariant-loop decreases-loop
+loop-less-2 : tie.Need-loop-start-smaller invariant-loop decreases-loop
 loop-less-2 c = search rules
 
-loop-again-2 : tie.Need-loop-preserved-2 invariant-loop decreases-loop
+loop-again-2 : tie.Need-loop-start-preserved invariant-loop decreases-loop
 loop-again-2 c =
     let at-loop = c.before.before.before in
     let start = at-loop.before.before.before.before in
-    let h = at-loop.loop.invariant in
+    let h = at-loop.loop-start.invariant in
     let w = start.args.word.now in
     let d = start.args.period in
-    let s = at-loop.loop.start in
-    let same : words_up_to w d (s + 1) ≡ words_up_to w d s = words_no_more w d s (sym c.before.starts-run.ensures ∙ c.if1.false) in
+    let s = at-loop.loop-start.start in
+    let same : words_up_to w d (s + 1) ≡ words_up_to w d s = words_no_more w d s (sym c.before.starts_run.ensures ∙ c.if-starts_run.false) in
     record {
-      within = omega (arith, c.before.before.loop-test.true);
+      within = omega (arith, c.before.before.loop-start-test.true);
       size = h.size;
       all = h.all;
       reached = h.reached ∙ ap length (sym same);
@@ -170,19 +170,19 @@ loop-again-2 c =
       written = h.written ∙ ap (λ (l : List ℕ). fill l start.args.out.now) (sym same);
     }
 
-same_length : tie.Need-same-length invariant-loop decreases-loop
-same_length c = c.before.loop.invariant.size
+same_length : tie.Need-shape_of-out invariant-loop decreases-loop
+same_length c = c.before.loop-start.invariant.size
 
 returns : tie.Need-returns invariant-loop decreases-loop
 returns c =
     let start = c.before.before.before.before.before in
-    let h = c.before.loop.invariant in
-    let all : words_up_to start.args.word.now start.args.period c.before.loop.start ≡ row_words start.args.word.now start.args.period =
-    all_starts start.args.word.now start.args.period c.before.loop.start (omega (arith, h.all, h.within, c.loop-test.false)) in
+    let h = c.before.loop-start.invariant in
+    let all : words_up_to start.args.word.now start.args.period c.before.loop-start.start ≡ row_words start.args.word.now start.args.period =
+    all_starts start.args.word.now start.args.period c.before.loop-start.start (omega (arith, h.all, h.within, c.loop-start-test.false)) in
     (h.reached ∙ ap length all, h.written ∙ ap (λ (l : List ℕ). fill l start.args.out.now) all)
 
-pub write-row-spec : {M : Type 1} → statement M
-write-row-spec =
+pub write_row_spec : {M : Type 1} → statement M
+write_row_spec =
     tie.close
     (tie.spec
     invariant-loop

@@ -34,53 +34,53 @@ module _ (w marks : List ℕ) (d found s : ℕ) (h : Counting w marks d found s)
   no_more : starts_run w d (s + 1) ≡ false → Counting w marks d found (s + 1)
   no_more t = record { within = omega arith; counted = h.counted ∙ ap length (sym (words_no_more w d s t)); few = omega (arith, h.few) }
 
-abbrev invariant-loop : tie.invariant-loop
+abbrev invariant-loop : tie.invariant-loop-start
 invariant-loop word marks period found₀ start₀ found start = Counting word marks period found start
 
-abbrev decreases-loop : tie.decreases-loop
+abbrev decreases-loop : tie.decreases-loop-start
 decreases-loop word marks period found₀ start₀ found start = length marks - start
 
-loop-holds : tie.Need-loop-init invariant-loop decreases-loop
+loop-holds : tie.Need-loop-start-init invariant-loop decreases-loop
 loop-holds c = record { within = omega arith; counted = refl; few = omega arith }
 
-add_start : tie.Need-overflow-add-start invariant-loop decreases-loop
+add_start : tie.Need-overflow_add-start invariant-loop decreases-loop
 add_start c = search rules
 
-starts-run-requires : tie.Need-starts-run-requires invariant-loop decreases-loop
+starts-run-requires : tie.Need-starts_run-requires invariant-loop decreases-loop
 starts-run-requires c κs = search rules
 
-add-found : tie.Need-overflow-add-found invariant-loop decreases-loop
+add-found : tie.Need-overflow_add-found invariant-loop decreases-loop
 add-found c = search rules
 
-loop-less : tie.Need-loop-smaller invariant-loop decreases-loop
+loop-less : tie.Need-loop-start-smaller-then-starts_run invariant-loop decreases-loop
 loop-less c = search rules
 
-loop-again : tie.Need-loop-preserved invariant-loop decreases-loop
+loop-again : tie.Need-loop-start-preserved-then-starts_run invariant-loop decreases-loop
 loop-again c =
     let at-loop = c.before.before.before in
     let start = at-loop.before.before.before in
-    one_more_lem start.args.word.now start.args.marks.now start.args.period at-loop.loop.found at-loop.loop.start at-loop.loop.invariant
-    (omega arith) (sym c.before.starts-run.ensures ∙ c.if1.true)
+    one_more_lem start.args.word.now start.args.marks.now start.args.period at-loop.loop-start.found at-loop.loop-start.start at-loop.loop-start.invariant
+    (omega arith) (sym c.before.starts_run.ensures ∙ c.if-starts_run.true)
 
-loop-less-2 : tie.Need-loop-smaller-2 invariant-loop decreases-loop
+loop-less-2 : tie.Need-loop-start-smaller invariant-loop decreases-loop
 loop-less-2 c = search rules
 
-loop-again-2 : tie.Need-loop-preserved-2 invariant-loop decreases-loop
+loop-again-2 : tie.Need-loop-start-preserved invariant-loop decreases-loop
 loop-again-2 c =
     let at-loop = c.before.before.before in
     let start = at-loop.before.before.before in
-    no_more start.args.word.now start.args.marks.now start.args.period at-loop.loop.found at-loop.loop.start at-loop.loop.invariant
-    (omega arith) (sym c.before.starts-run.ensures ∙ c.if1.false)
+    no_more start.args.word.now start.args.marks.now start.args.period at-loop.loop-start.found at-loop.loop-start.start at-loop.loop-start.invariant
+    (omega arith) (sym c.before.starts_run.ensures ∙ c.if-starts_run.false)
 
 returns : tie.Need-returns invariant-loop decreases-loop
 returns c =
     let start = c.before.before.before.before in
     let w = start.args.word.now in
-    let e : c.before.loop.start ≡ suc (length w) - 2 * start.args.period = omega (arith, ap length start.requires, length-start_marks w start.args.period) in
-    c.before.loop.invariant.counted ∙ ap length (all_starts w start.args.period c.before.loop.start e)
+    let e : c.before.loop-start.start ≡ suc (length w) - 2 * start.args.period = omega (arith, ap length start.requires, length-start_marks w start.args.period) in
+    c.before.loop-start.invariant.counted ∙ ap length (all_starts w start.args.period c.before.loop-start.start e)
 
-pub count-row-spec : {M : Type 1} → statement M
-count-row-spec =
+pub count_row_spec : {M : Type 1} → statement M
+count_row_spec =
     tie.close
     (tie.spec
     invariant-loop

@@ -22,14 +22,14 @@ record Counting (w : List ℕ) (from found q : ℕ) : Type 0 where
   read : from ≡ length (marks_below w q)
   counted : found ≡ length (rows_below w q)
 
-abbrev invariant-loop : tie.invariant-loop
+abbrev invariant-loop : tie.invariant-loop-period
 invariant-loop word marks from₀ found₀ period₀ from found period = Counting word from found period
 
-abbrev decreases-loop : tie.decreases-loop
+abbrev decreases-loop : tie.decreases-loop-period
 decreases-loop word marks from₀ found₀ period₀ from found period = length word + 1 - period
 
 -- what is known in the loop
-module _ (c : tie.In-loop invariant-loop decreases-loop) where
+module _ (c : tie.In-loop-period invariant-loop decreases-loop) where
   abbrev start : tie.Start invariant-loop decreases-loop
   start = c.before.before.before.before
 
@@ -37,108 +37,108 @@ module _ (c : tie.In-loop invariant-loop decreases-loop) where
   w = start.args.word.now
 
   abbrev q : ℕ
-  q = c.before.loop.period
+  q = c.before.loop-period.period
 
   abbrev from : ℕ
-  from = c.before.loop.from
+  from = c.before.loop-period.from
 
-  abbrev inv : Counting w from c.before.loop.found q
-  inv = c.before.loop.invariant
+  abbrev inv : Counting w from c.before.loop-period.found q
+  inv = c.before.loop-period.invariant
 
   -- the marks of this block length are among those of the slice
   marks-left : from + (suc (length w) - 2 * q) ≤ length start.args.marks.now
-  marks-left = marks-within w q inv.positive c.loop-test.true start.args.marks.now start.pre.1 from inv.read
+  marks-left = marks-within w q inv.positive c.loop-period-test.true start.args.marks.now start.requires.1 from inv.read
 
   lent : take (from + (length w + 1 - 2 * q) - from) (drop from start.args.marks.now) ≡ start_marks w q
-  lent = marks_lent w q inv.positive c.loop-test.true start.args.marks.now start.pre.1 from inv.read
+  lent = marks_lent w q inv.positive c.loop-period-test.true start.args.marks.now start.requires.1 from inv.read
 
   -- the words are few
   all_fit : length (rows_below w (q + 1)) ≤ 17682
   all_fit =
       omega (
         arith,
-        rows_fit w q inv.positive c.loop-test.true,
-        places_enough w start.pre.0,
+        rows_fit w q inv.positive c.loop-period-test.true,
+        places_enough w start.requires.0,
         bound_number,
         ap length (rows_more w q inv.positive),
         length-append (rows_below w q) (row_words w q),
       )
 
-loop-holds : tie.Need-loop-init invariant-loop decreases-loop
+loop-holds : tie.Need-loop-period-init invariant-loop decreases-loop
 loop-holds c = record { positive = omega arith; within = omega arith; read = refl; counted = refl }
 
-mul-loop : tie.Need-overflow-mul-loop invariant-loop decreases-loop
+mul-loop : tie.Need-overflow_mul-period invariant-loop decreases-loop
 unfolding longest
 mul-loop c = search rules
 
-add-to : tie.Need-overflow-add-to invariant-loop decreases-loop
+add-to : tie.Need-overflow_add-to invariant-loop decreases-loop
 add-to c = search rules
 
-mul-to : tie.Need-overflow-mul-to invariant-loop decreases-loop
+mul-to : tie.Need-overflow_mul-to invariant-loop decreases-loop
 mul-to c = search rules
 
-sub-to : tie.Need-overflow-sub-to invariant-loop decreases-loop
+sub-to : tie.Need-overflow_sub-to invariant-loop decreases-loop
 sub-to c = search rules
 
-add-to-2 : tie.Need-overflow-add-to-2 invariant-loop decreases-loop
+add-to-2 : tie.Need-overflow_add-to-in-loop-period invariant-loop decreases-loop
 add-to-2 c = omega (arith, marks-left c)
 
-sub-count-row : tie.Need-overflow-sub-count-row invariant-loop decreases-loop
+sub-count-row : tie.Need-slice_bounds-count_row-count invariant-loop decreases-loop
 sub-count-row c = search rules
 
-part-count-row-start : tie.Need-slice-bounds-count-row-start invariant-loop decreases-loop
+part-count-row-start : tie.Need-slice_bounds-count_row-start invariant-loop decreases-loop
 part-count-row-start c = search rules
 
-part-count-row-end : tie.Need-slice-bounds-count-row-end invariant-loop decreases-loop
+part-count-row-end : tie.Need-slice_bounds-count_row-end invariant-loop decreases-loop
 part-count-row-end c = omega (arith, marks-left c)
 
-count-row-requires : tie.Need-count-row-requires invariant-loop decreases-loop
+count-row-requires : tie.Need-count_row-found-requires invariant-loop decreases-loop
 count-row-requires c κs = lent c.before
 
 -- the words of this block length are counted too
-module _ (c : tie.After-count-row invariant-loop decreases-loop) where
-  abbrev in-loop : tie.In-loop invariant-loop decreases-loop
+module _ (c : tie.After-count_row-found invariant-loop decreases-loop) where
+  abbrev in-loop : tie.In-loop-period invariant-loop decreases-loop
   in-loop = c.before.before
 
-  counted-more : in-loop.before.loop.found + c.count-row.result ≡ length (rows_below (w in-loop) (q in-loop + 1))
+  counted-more : in-loop.before.loop-period.found + c.count_row-found.result ≡ length (rows_below (w in-loop) (q in-loop + 1))
   counted-more =
       omega (
         arith,
         (inv in-loop).counted,
-        c.count-row.ensures,
+        c.count_row-found.ensures,
         ap length (rows_more (w in-loop) (q in-loop) (inv in-loop).positive),
         length-append (rows_below (w in-loop) (q in-loop)) (row_words (w in-loop) (q in-loop)),
       )
 
-add-found : tie.Need-overflow-add-found invariant-loop decreases-loop
+add-found : tie.Need-overflow_add-found invariant-loop decreases-loop
 add-found c = omega (arith, counted-more c, all_fit c.before.before)
 
-add-period : tie.Need-overflow-add-period invariant-loop decreases-loop
+add-period : tie.Need-overflow_add-period invariant-loop decreases-loop
 unfolding longest
 add-period c = search rules
 
-loop-less : tie.Need-loop-smaller invariant-loop decreases-loop
+loop-less : tie.Need-loop-period-smaller invariant-loop decreases-loop
 loop-less c = search rules
 
-loop-again : tie.Need-loop-preserved invariant-loop decreases-loop
+loop-again : tie.Need-loop-period-preserved invariant-loop decreases-loop
 loop-again c =
     let in-loop = c.before.before in
-    let h = in-loop.before.loop.invariant in
+    let h = in-loop.before.loop-period.invariant in
     record {
       positive = omega arith;
-      within = omega (arith, in-loop.loop-test.true);
-      read = omega (arith, h.read, length-marks-more (w in-loop) (q in-loop) h.positive in-loop.loop-test.true);
+      within = omega (arith, in-loop.loop-period-test.true);
+      read = omega (arith, h.read, length-marks-more (w in-loop) (q in-loop) h.positive in-loop.loop-period-test.true);
       counted = counted-more c;
     }
 
 returns : tie.Need-returns invariant-loop decreases-loop
 returns c =
-    let h = c.before.loop.invariant in
+    let h = c.before.loop-period.invariant in
     let start = c.before.before.before.before in
-    h.counted ∙ ap length (all_rows start.args.word.now c.before.loop.period h.within c.loop-test.false)
+    h.counted ∙ ap length (all_rows start.args.word.now c.before.loop-period.period h.within c.loop-period-test.false)
 
-pub count-words-spec : {M : Type 1} → statement M
-count-words-spec =
+pub count_words_spec : {M : Type 1} → statement M
+count_words_spec =
     tie.close
     (tie.spec
     invariant-loop
