@@ -10,5 +10,5 @@ returns : tie.Need-returns
 unfolding longest board_size
 returns c = sym fresh_zero
 
-pub fresh-spec : {M : Type 1} → statement M
-fresh-spec = tie.close (tie.spec returns)
+pub fresh_spec : {M : Type 1} → statement M
+fresh_spec = tie.close (tie.spec returns)

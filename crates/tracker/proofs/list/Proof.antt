@@ -3,14 +3,14 @@ use borrow.Author.Rules.{rules}
 use Rattle.tracker.proofs.list.Statement.{statement}
 use Rattle.tracker.proofs.list.Tie as tie
 
-list-requires : tie.Need-list-requires
+list-requires : tie.Need-list-wrote-requires
 list-requires c κs = search rules
 
-same_length : tie.Need-same-length
+same_length : tie.Need-shape_of-out
 same_length c = search rules
 
 returns : tie.Need-returns
-returns c = c.before.before.list.ensures _ _
+returns c = c.before.before.list-wrote.ensures _ _
 
-pub list-spec : {M : Type 1} → statement M
-list-spec = tie.close (tie.spec list-requires same_length returns)
+pub list_spec : {M : Type 1} → statement M
+list_spec = tie.close (tie.spec list-requires same_length returns)

@@ -19,53 +19,53 @@ use Rattle.tracker.proofs.in_place.add.Tie as tie
 abbrev came : tie.Start → Tracker
 came s = of_fields s.args.len.now s.args.bytes.now s.args.board.now s.args.live.now s.args.ended.now
 
-is-damaged-requires : tie.Need-is-damaged-requires
+is-damaged-requires : tie.Need-is_damaged-requires
 is-damaged-requires c κs = search rules
 
-returns : tie.Need-returns
+returns : tie.Need-returns-then-is_damaged
 returns c =
-    let old : Tracker = came c.before.before.before.before in
-    sym (adding-damaged old _ (damage_found old c.before.is-damaged.ensures c.if1.true))
+    let old : Tracker = came c.before.before.before in
+    sym (adding-damaged old _ (damage_found old c.before.is_damaged.ensures c.if-is_damaged.true))
 
 -- the tracker is not damaged
-module _ (c : tie.Else1) where
+module _ (c : tie.Else-is_damaged) where
   abbrev old : Tracker
-  old = came c.before.before.before.before
+  old = came c.before.before.before
 
   sound : damaged old ≡ false
-  sound = damage_found old c.before.is-damaged.ensures c.if1.false
+  sound = damage_found old c.before.is_damaged.ensures c.if-is_damaged.false
 
-is-letter-requires : tie.Need-is-letter-requires
+is-letter-requires : tie.Need-is_letter-requires
 is-letter-requires c κs = search rules
 
-returns-2 : tie.Need-returns-2
+returns-2 : tie.Need-returns-then-not-is_letter
 returns-2 c =
     let e = c.before.before in
-    sym (adding_outside (old e) _ (sound e) (sym c.before.is-letter.ensures ∙ not-true _ c.if2.true))
+    sym (adding_outside (old e) _ (sound e) (sym c.before.is_letter.ensures ∙ c.if-not-is_letter.true))
 
 -- and the byte is a letter
-inside : (c : tie.Else2) → is_letter alphabet_size c.before.before.before.before.before.before.args.letter ≡ true
-inside c = sym c.before.is-letter.ensures ∙ not-false _ c.if2.false
+inside : (c : tie.Else-not-is_letter) → is_letter alphabet_size c.args.letter ≡ true
+inside c = sym c.before.is_letter.ensures ∙ c.if-not-is_letter.false
 
-returns-3 : tie.Need-returns-3
+returns-3 : tie.Need-returns-then-n-eq-LONGEST
 unfolding longest
 returns-3 c =
     let e = c.before.before.before in
-    sym (adding_full (old e) _ (sound e) (inside c.before) c.if3.true)
+    sym (adding_full (old e) _ (sound e) (inside c.before) c.if-n-eq-LONGEST.true)
 
-store-letter-requires : tie.Need-store-letter-requires
+store-letter-requires : tie.Need-store_letter-requires
 unfolding longest
 store-letter-requires c κs =
     let room = c.before.before.before.before.before in
     let e = room.before.before.before in
-    (sound e, (omega (arith, (undamaged (old e) (sound e)).0, room.if3.false), passes _ (inside room.before)))
+    (sound e, (omega (arith, (undamaged (old e) (sound e)).0, room.if-n-eq-LONGEST.false), passes _ (inside room.before)))
 
-returns-4 : tie.Need-returns-4
+returns-4 : tie.Need-returns
 unfolding longest
 returns-4 c =
     let room = c.before.before.before.before.before.before in
     let e = room.before.before.before in
-    ap accepted c.store-letter.ensures ∙ sym (adding_accepted (old e) _ (sound e) (inside room.before) room.if3.false)
+    ap accepted c.store_letter.ensures ∙ sym (adding_accepted (old e) _ (sound e) (inside room.before) room.if-n-eq-LONGEST.false)
 
 pub add_spec : {M : Type 1} → statement M
 add_spec =

@@ -10,38 +10,34 @@ use borrow.Author.Rules.{rules}
 use Rattle.tracker.proofs.letters.is_damaged.Statement.{statement}
 use Rattle.tracker.proofs.letters.is_damaged.Tie as tie
 
-returns : tie.Need-returns
+returns : tie.Need-returns-then-len-gt-LONGEST
 unfolding longest
-returns c = sym (long-damaged _ _ c.if1.true)
+returns c = sym (long-damaged _ _ c.if-len-gt-LONGEST.true)
 
-slice-aggregate-check-word : tie.Need-slice-aggregate-check-word
+slice-aggregate-check-word : tie.Need-slice_bounds-check_word-end
 slice-aggregate-check-word c = sym (length-take-le _ _ (omega arith))
 
-check-word-requires : tie.Need-check-word-requires
+check-word-requires : tie.Need-check_word-requires
 check-word-requires c κs = search rules
 
-enum_told : tie.Need-enum-told
+enum_told : tie.Need-enum_told-1
 enum_told c = search rules
 
-enum-told-2 : tie.Need-enum-told-2
+enum-told-2 : tie.Need-enum_told-in-Accepted
 enum-told-2 c = search rules
 
-returns-2 : tie.Need-returns-2
+returns-2 : tie.Need-returns-in-Refused
 unfolding longest
 returns-2 c =
-    let checked = c.before.before in
-    let within = checked.before.before.before in
-    sym (refused_damaged _ _ within.if1.false (refused_some _ _ (sym checked.check-word.ensures ∙ c.enum_told.given.1)))
+    sym (refused_damaged _ _ c.if-len-gt-LONGEST.false (refused_some _ _ (sym c.check_word.ensures ∙ c.in-Refused.is)))
 
-returns-3 : tie.Need-returns-3
+returns-3 : tie.Need-returns-in-Accepted
 unfolding longest
 returns-3 c =
-    let checked = c.before.before in
-    let within = checked.before.before.before in
-    sym (accepted_undamaged _ _ within.if1.false (accepted_none _ (sym checked.check-word.ensures ∙ c.enum-told2.given.1)))
+    sym (accepted_undamaged _ _ c.if-len-gt-LONGEST.false (accepted_none _ (sym c.check_word.ensures ∙ c.in-Accepted.is)))
 
-pub is-damaged-spec : {M : Type 1} → statement M
-is-damaged-spec =
+pub is_damaged_spec : {M : Type 1} → statement M
+is_damaged_spec =
     tie.close
     (tie.spec
     returns

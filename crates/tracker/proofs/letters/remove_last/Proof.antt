@@ -17,30 +17,30 @@ use Rattle.tracker.proofs.letters.remove_last.Tie as tie
 whole-requires : tie.Need-whole-requires
 whole-requires c κs = search rules
 
-sub-last : tie.Need-overflow-sub-last
+sub-last : tie.Need-overflow_sub-last
 sub-last c = search rules
 
-element-write-bytes : tie.Need-element-write-bytes
+element-write-bytes : tie.Need-bounds-bytes-last
 unfolding longest
 element-write-bytes c = search rules
 
-cast-reopen : tie.Need-overflow-cast-reopen
+cast-reopen : tie.Need-overflow_cast-held
 unfolding longest
 cast-reopen c = search rules
 
 reopen-requires : tie.Need-reopen-requires
 reopen-requires c κs = search rules
 
-count-open-requires : tie.Need-count-open-requires
+count-open-requires : tie.Need-count_open-open-requires
 count-open-requires c κs = search rules
 
 -- the board that is left, and its live pairs
-module _ (c : tie.After-count-open) where
+module _ (c : tie.After-count_open-open) where
   abbrev reopened : tie.After-reopen
-  reopened = c.before.before
+  reopened = c.before
 
   abbrev held : tie.After-whole
-  held = reopened.before.before.before
+  held = reopened.before.before.before.before
 
   abbrev start : tie.Start
   start = held.before.before.before
@@ -61,26 +61,26 @@ module _ (c : tie.After-count-open) where
   long = length-map old.board (entry_reopened old.len) ∙ held.whole.ensures.1
 
   within : n ≤ longest
-  within = omega (arith, start.pre.0)
+  within = omega (arith, start.requires.0)
 
-  live : c.count-open.result ≡ length (open_pairs n board)
-  live = c.count-open.ensures ∙ ap (λ (b : List ℕ). length (open_pairs n b)) reopened.reopen.ensures
+  live : c.count_open-open.result ≡ length (open_pairs n board)
+  live = c.count_open-open.ensures ∙ ap (λ (b : List ℕ). length (open_pairs n b)) reopened.reopen.ensures
 
-pairs-in-range-requires : tie.Need-pairs-in-range-requires
+pairs-in-range-requires : tie.Need-pairs_in_range-requires
 pairs-in-range-requires c κs = search rules
 
-sub-ended : tie.Need-overflow-sub-ended
-sub-ended c = let e = c.before in live_within (n e) (board e) (within e) (long e) (live e) c.pairs-in-range.ensures
+sub-ended : tie.Need-overflow_sub-ended
+sub-ended c = let e = c.before in live_within (n e) (board e) (within e) (long e) (live e) c.pairs_in_range.ensures
 
 returns : tie.Need-returns
 returns c =
     let e = c.before in
-    ap (λ (b : List ℕ). of_fields (n e) (bytes e) b e.count-open.result (c.pairs-in-range.result - e.count-open.result)) (reopened e).reopen.ensures
-    ∙ fields_with_totals (n e) (bytes e) (board e) (within e) (long e) (live e) c.pairs-in-range.ensures
+    ap (λ (b : List ℕ). of_fields (n e) (bytes e) b e.count_open-open.result (c.pairs_in_range.result - e.count_open-open.result)) (reopened e).reopen.ensures
+    ∙ fields_with_totals (n e) (bytes e) (board e) (within e) (long e) (live e) c.pairs_in_range.ensures
     ∙ letter_gone (old e)
 
-pub remove-last-spec : {M : Type 1} → statement M
-remove-last-spec =
+pub remove_last_spec : {M : Type 1} → statement M
+remove_last_spec =
     tie.close
     (tie.spec
     whole-requires

@@ -36,7 +36,7 @@ module _ (w : tie.After-whole) where
   word = take (old.len + 1) bytes
 
   room : old.len < longest
-  room = start.pre.1.0
+  room = start.requires.1.0
 
   stored : length bytes ≡ longest
   stored = length-set old.bytes old.len letter ∙ w.whole.ensures.0
@@ -48,34 +48,34 @@ module _ (w : tie.After-whole) where
   short = omega (arith, size, room)
 
   letters : T (of_letters word)
-  letters = letters-stored old.len old.bytes letter (omega (arith, w.whole.ensures.0, room)) (undamaged old start.pre.0).1 start.pre.1.1
+  letters = letters-stored old.len old.bytes letter (omega (arith, w.whole.ensures.0, room)) (undamaged old start.requires.0).1 start.requires.1.1
 
 whole-requires : tie.Need-whole-requires
 whole-requires c κs = search rules
 
-add-longer : tie.Need-overflow-add-longer
+add-longer : tie.Need-overflow_add-longer
 unfolding longest
 add-longer c = search rules
 
-element-write-bytes : tie.Need-element-write-bytes
+element-write-bytes : tie.Need-bounds-bytes-at
 unfolding longest
 element-write-bytes c = search rules
 
-slice-aggregate-word : tie.Need-slice-aggregate-word
+slice-aggregate-word : tie.Need-slice_bounds-word-end
 slice-aggregate-word c = sym (size c.before.before.before.before)
 
-count-prefixes-requires : tie.Need-count-prefixes-requires
+count-prefixes-requires : tie.Need-count_prefixes-requires
 unfolding longest
 count-prefixes-requires c κs = let w = c.before.before.before.before.before in (letters w, (short w, refl))
 
-end-pairs-requires : tie.Need-end-pairs-requires
+end-pairs-requires : tie.Need-end_pairs-trials-requires
 end-pairs-requires c κs =
     let counted = c.before.before in
     let w = counted.before.before.before.before.before.before in
-    (record { all = letters w; short = short w; rows = counted.count-prefixes.ensures }, w.whole.ensures.1)
+    (record { all = letters w; short = short w; rows = counted.count_prefixes.ensures }, w.whole.ensures.1)
 
 -- the board that is left, and its live pairs
-module _ (c : tie.After-end-pairs) where
+module _ (c : tie.After-end_pairs-trials) where
   abbrev held : tie.After-whole
   held = c.before.before.before.before.before.before.before.before.before
 
@@ -91,24 +91,24 @@ module _ (c : tie.After-end-pairs) where
   within : n ≤ longest
   within = omega (arith, room held)
 
-  live : c.end-pairs.result.live ≡ length (open_pairs n board)
-  live = c.end-pairs.ensures.1.0 ∙ ap₂ (λ (m : ℕ) (b : List ℕ). length (open_pairs m b)) (size held) c.end-pairs.ensures.1.1
+  live : c.end_pairs-trials.result.live ≡ length (open_pairs n board)
+  live = c.end_pairs-trials.ensures.1.0 ∙ ap₂ (λ (m : ℕ) (b : List ℕ). length (open_pairs m b)) (size held) c.end_pairs-trials.ensures.1.1
 
-pairs-in-range-requires : tie.Need-pairs-in-range-requires
+pairs-in-range-requires : tie.Need-pairs_in_range-requires
 pairs-in-range-requires c κs = within c
 
-sub-ended : tie.Need-overflow-sub-ended
-sub-ended c = let e = c.before.before in live_within (n e) (board e) (within e) (long e) (live e) c.before.pairs-in-range.ensures
+sub-ended : tie.Need-overflow_sub-ended
+sub-ended c = let e = c.before.before in live_within (n e) (board e) (within e) (long e) (live e) c.before.pairs_in_range.ensures
 
 returns : tie.Need-returns
 returns c =
     let e = c.before.before in
-    ap (λ (b : List ℕ). of_fields (n e) (bytes (held e)) b e.end-pairs.result.live (c.before.pairs-in-range.result - e.end-pairs.result.live)) e.end-pairs.ensures.1.1
-    ∙ fields_with_totals (n e) (bytes (held e)) (board e) (within e) (long e) (live e) c.before.pairs-in-range.ensures
+    ap (λ (b : List ℕ). of_fields (n e) (bytes (held e)) b e.end_pairs-trials.result.live (c.before.pairs_in_range.result - e.end_pairs-trials.result.live)) e.end_pairs-trials.ensures.1.1
+    ∙ fields_with_totals (n e) (bytes (held e)) (board e) (within e) (long e) (live e) c.before.pairs_in_range.ensures
     ∙ letter_added (old (held e)) (letter (held e))
 
-pub store-letter-spec : {M : Type 1} → statement M
-store-letter-spec =
+pub store_letter_spec : {M : Type 1} → statement M
+store_letter_spec =
     tie.close
     (tie.spec
     whole-requires

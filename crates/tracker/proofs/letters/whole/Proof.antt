@@ -9,5 +9,5 @@ returns : tie.Need-returns
 unfolding longest board_size
 returns c = search rules
 
-pub whole-spec : {M : Type 1} → statement M
-whole-spec = tie.close (tie.spec returns)
+pub whole_spec : {M : Type 1} → statement M
+whole_spec = tie.close (tie.spec returns)
