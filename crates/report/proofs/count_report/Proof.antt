@@ -11,31 +11,31 @@ use Rattle.report.proofs.count_report.Statement.{statement}
 use Rattle.report.proofs.count_report.Tie as tie
 
 -- what is known once the word is to be reported
-module _ (c : tie.After-enum-told) where
+module _ (c : tie.In-Accepted) where
   abbrev w : List ℕ
-  w = c.before.before.before.before.args.word.now
+  w = c.args.word.now
 
   reported : report_refusal w 0 0 ≡ none
-  reported = accepted_none (report_refusal w 0 0) (sym c.before.before.check-reported.ensures ∙ c.enum_told.given.1)
+  reported = accepted_none (report_refusal w 0 0) (sym c.check_reported.ensures ∙ c.in-Accepted.is)
 
-check-reported-requires : tie.Need-check-reported-requires
+check-reported-requires : tie.Need-check_reported-requires
 check-reported-requires c κs = search rules
 
-enum-known-refusal : tie.Need-enum-known-refusal
+enum-known-refusal : tie.Need-enum_known-refusal
 enum-known-refusal c = search rules
 
-enum_told : tie.Need-enum-told
+enum_told : tie.Need-enum_told-1
 enum_told c = search rules
 
-words-needed-requires : tie.Need-words-needed-requires
+words-needed-requires : tie.Need-words_needed-requires
 words-needed-requires c κs = (reported_letters (w c) (reported c), reported_length (w c) (reported c))
 
-returns : tie.Need-returns
-returns c = sym (count_refused _ (refused_some _ _ (sym c.before.before.before.check-reported.ensures ∙ c.before.refusal.given.1)))
+returns : tie.Need-returns-in-Refused
+returns c = sym (count_refused _ (refused_some _ _ (sym c.check_reported.ensures ∙ c.in-Refused.is)))
 
-returns-2 : tie.Need-returns-2
-returns-2 c = let told = c.before in report_counted (w told) (reported told) c.words-needed.result c.words-needed.ensures
+returns-2 : tie.Need-returns-in-Accepted
+returns-2 c = let told = c.before in report_counted (w told) (reported told) c.words_needed.result c.words_needed.ensures
 
-pub count-report-spec : {M : Type 1} → statement M
-count-report-spec =
+pub count_report_spec : {M : Type 1} → statement M
+count_report_spec =
     tie.close (tie.spec check-reported-requires enum-known-refusal enum_told words-needed-requires returns returns-2)

@@ -18,75 +18,74 @@ use Rattle.report.specs.Places.{report_places}
 use Rattle.report.proofs.Refusals.{report_refused, reported_letters, reported_length, report_short, report_written}
 use Rattle.report.proofs.Lengths.{report_places_lem}
 use Rattle.report.proofs.report.Statement.{statement}
+use Rattle.report.proofs.report.Lts.{then-out-lt-PLACES+else-out-needed, else-out-lt-PLACES}
 use Rattle.report.proofs.report.Tie as tie
 
 -- what is known once the word is to be reported
-module _ (c : tie.After-enum-told) where
-  abbrev start : tie.Start
-  start = c.before.before.before.before.before
-
+module _ (c : tie.In_default) where
   abbrev w : List ℕ
-  w = start.args.word.now
+  w = c.args.word.now
 
   abbrev out : List ℕ
-  out = start.args.out.now
+  out = c.args.out.now
 
   reported : report_refusal w 0 0 ≡ none
-  reported = accepted_none (report_refusal w 0 0) (sym c.before.before.check-reported.ensures ∙ c.enum_told.given.1)
+  reported = accepted_none (report_refusal w 0 0) (sym c.check_reported.ensures ∙ c.in_default.is)
 
 -- past both tests the slice has places enough
-fits : (c : tie.Joined1) → length (report_words (w c.before)) ≤ length (out c.before)
+fits : (c : tie.Joined-out-lt-PLACES) → length (report_words (w c.before)) ≤ length (out c.before)
 unfolding report_places longest board_size
 fits c =
     let told = c.before in
-    ⊎_elim (λ counted. omega (arith, counted.1.ensures, counted.2.left))
-    (λ long. omega (arith, long.left, report_places_lem (w told) (reported_length (w told) (reported told)))) c.if1.branch
+    elim c.if-out-lt-PLACES.branch [
+      | then-out-lt-PLACES+else-out-needed v ↦ omega (arith, v.words_needed-needed.ensures, v.if-out-needed.false)
+      | else-out-lt-PLACES v ↦ omega (arith, v.if-out-lt-PLACES.false, report_places_lem (w told) (reported_length (w told) (reported told)))
+    ]
 
-check-reported-requires : tie.Need-check-reported-requires
+check-reported-requires : tie.Need-check_reported-requires
 check-reported-requires c κs = search rules
 
-enum-known-refusal : tie.Need-enum-known-refusal
+enum-known-refusal : tie.Need-enum_known-refusal
 enum-known-refusal c = search rules
 
-returns : tie.Need-returns
+returns : tie.Need-returns-in-Refused
 returns c =
-    let at-start = c.before.before.before.before.before.before in
-    let word = at-start.args.word.now in
-    let r = c.before.refusal.given.0.0 in
+    let word = c.args.word.now in
+    let r = c.in-Refused.refusal in
     sym
-    (report_refused word (refused_some (report_refusal word 0 0) r (sym c.before.before.before.check-reported.ensures ∙ c.before.refusal.given.1))
-    at-start.args.out.now)
+    (report_refused word (refused_some (report_refusal word 0 0) r (sym c.check_reported.ensures ∙ c.in-Refused.is))
+    c.args.out.now)
 
-enum_told : tie.Need-enum-told
+enum_told : tie.Need-enum_told-1
 enum_told c = search rules
 
-words-needed-requires : tie.Need-words-needed-requires
+words-needed-requires : tie.Need-words_needed-needed-requires
 words-needed-requires c κs = let told = c.before in (reported_letters (w told) (reported told), reported_length (w told) (reported told))
 
-returns-2 : tie.Need-returns-2
+returns-2 : tie.Need-returns-then-out-needed
 returns-2 c =
     let told = c.before.before.before in
-    let call = c.before.words-needed in
-    report_short (w told) (reported told) (out told) call.result call.ensures c.if2.true
+    let call = c.before.words_needed-needed in
+    report_short (w told) (reported told) (out told) call.result call.ensures c.if-out-needed.true
 
-write-parts-requires : tie.Need-write-parts-requires
+write-parts-requires : tie.Need-write_parts-written-requires
 write-parts-requires c κs =
     let told = c.before.before in
     (reported_letters (w told) (reported told), (reported_length (w told) (reported told), fits c.before))
 
-same_length : tie.Need-same-length
+same_length : tie.Need-shape_of-out
 same_length c = search rules
 
-returns-3 : tie.Need-returns-3
+returns-3 : tie.Need-returns
 returns-3 c =
-    let call = c.before.before.write-parts in
+    let call = c.before.before.write_parts-written in
     let joined = c.before.before.before.before in
     let told = joined.before in
     ap (λ (l : List ℕ). writing call.result 0 0 0 l) call.ensures.1
     ∙ report_written (w told) (reported told) (out told) call.result call.ensures.0 (omega (arith, call.ensures.0, fits joined))
 
-pub report-spec : {M : Type 1} → statement M
-report-spec =
+pub report_spec : {M : Type 1} → statement M
+report_spec =
     tie.close
     (tie.spec
     check-reported-requires
