@@ -4,23 +4,23 @@ use Rattle.patterns.proofs.Answers.{count_refused, sizes_small, counted}
 use Rattle.patterns.proofs.count_square_free.Statement.{statement}
 use Rattle.patterns.proofs.count_square_free.Tie as tie
 
-check-sizes-requires : tie.Need-check-sizes-requires
+check-sizes-requires : tie.Need-check_sizes-requires
 check-sizes-requires c κs = search rules
 
-enum-known-refusal : tie.Need-enum-known-refusal
+enum-known-refusal : tie.Need-enum_known-refusal
 enum-known-refusal c = search rules
 
-returns : tie.Need-returns
-returns c = count_refused _ _ c.before.before.before.check-sizes.ensures c.before.refusal.given.1
+returns : tie.Need-returns-in-Refused
+returns c = count_refused _ _ c.check_sizes.ensures c.in-Refused.is
 
-enum_told : tie.Need-enum-told
+enum_told : tie.Need-enum_told-1
 enum_told c = search rules
 
-number-of-words-requires : tie.Need-number-of-words-requires
-number-of-words-requires c κs = sizes_small _ _ c.before.before.check-sizes.ensures c.enum_told.given.1
+number-of-words-requires : tie.Need-number_of_words-requires
+number-of-words-requires c κs = sizes_small _ _ c.check_sizes.ensures c.in_default.is
 
-returns-2 : tie.Need-returns-2
-returns-2 c = counted _ _ c.before.before.before.check-sizes.ensures c.before.enum_told.given.1 c.number-of-words.result c.number-of-words.ensures
+returns-2 : tie.Need-returns
+returns-2 c = counted _ _ c.check_sizes.ensures c.in_default.is c.number_of_words.result c.number_of_words.ensures
 
-pub count-square-free-spec : {M : Type 1} → statement M
-count-square-free-spec = tie.close (tie.spec check-sizes-requires enum-known-refusal returns enum_told number-of-words-requires returns-2)
+pub count_square_free_spec : {M : Type 1} → statement M
+count_square_free_spec = tie.close (tie.spec check-sizes-requires enum-known-refusal returns enum_told number-of-words-requires returns-2)

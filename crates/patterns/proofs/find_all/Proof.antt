@@ -11,17 +11,17 @@ use Rattle.patterns.proofs.Found.{zeros, no_letters_totals, no_letters_numbered,
 use Rattle.patterns.proofs.find_all.Statement.{statement}
 use Rattle.patterns.proofs.find_all.Tie as tie
 
-add-to : tie.Need-overflow-add-to
+add-to : tie.Need-overflow_add-to
 unfolding longest_square_free
 add-to c = search rules
 
-sub-search : tie.Need-overflow-sub-search
+sub-search : tie.Need-slice_bounds-search-count
 sub-search c = search rules
 
-part-totals-start : tie.Need-slice-bounds-totals-start
+part-totals-start : tie.Need-slice_bounds-totals-start
 part-totals-start c = search rules
 
-part-totals-end : tie.Need-slice-bounds-totals-end
+part-totals-end : tie.Need-slice_bounds-totals-end
 unfolding longest_square_free
 part-totals-end c = search rules
 
@@ -30,7 +30,7 @@ search-requires c κs =
     let start = c.before.before.before.before in
     (start.requires.0, (no_letters_totals start.args.n.0 start.requires.1, no_letters_numbered start.args.n.0 start.requires.1))
 
-same_length : tie.Need-same-length
+same_length : tie.Need-shape_of-out
 same_length c = search rules
 
 returns : tie.Need-returns
@@ -41,5 +41,5 @@ returns c =
     found_begun start.args.n.0 start.requires.1 start.args.alphabet.0 start.requires.0 in
     (omega (arith, call.ensures.0, ap length words), call.ensures.1.1 ∙ ap (λ (ws : List ℕ). stored 0 ws start.args.out.now) words)
 
-pub find-all-spec : {M : Type 1} → statement M
-find-all-spec = tie.close (tie.spec add-to sub-search part-totals-start part-totals-end search-requires same_length returns)
+pub find_all_spec : {M : Type 1} → statement M
+find_all_spec = tie.close (tie.spec add-to sub-search part-totals-start part-totals-end search-requires same_length returns)

@@ -12,43 +12,43 @@ use Rattle.patterns.proofs.Answers.{list_refused, sizes_small, list_short, list_
 use Rattle.patterns.proofs.list_square_free.Statement.{statement}
 use Rattle.patterns.proofs.list_square_free.Tie as tie
 
-check-sizes-requires : tie.Need-check-sizes-requires
+check-sizes-requires : tie.Need-check_sizes-requires
 check-sizes-requires c κs = search rules
 
-enum-known-refusal : tie.Need-enum-known-refusal
+enum-known-refusal : tie.Need-enum_known-refusal
 enum-known-refusal c = search rules
 
-returns : tie.Need-returns
-returns c = list_refused _ _ c.before.before.before.check-sizes.ensures c.before.refusal.given.1 _
+returns : tie.Need-returns-in-Refused
+returns c = list_refused _ _ c.check_sizes.ensures c.in-Refused.is _
 
-enum_told : tie.Need-enum-told
+enum_told : tie.Need-enum_told-1
 enum_told c = search rules
 
-number-of-words-requires : tie.Need-number-of-words-requires
-number-of-words-requires c κs = sizes_small _ _ c.before.before.check-sizes.ensures c.enum_told.given.1
+number-of-words-requires : tie.Need-number_of_words-needed-requires
+number-of-words-requires c κs = sizes_small _ _ c.check_sizes.ensures c.in_default.is
 
-returns-2 : tie.Need-returns-2
+returns-2 : tie.Need-returns-then-needed-out
 returns-2 c =
-    let told = c.before.before in
-    list_short _ _ told.before.before.check-sizes.ensures told.enum_told.given.1 _ c.before.number-of-words.result c.before.number-of-words.ensures (omega arith)
+    let told = c in
+    list_short _ _ told.check_sizes.ensures told.in_default.is _ c.number_of_words-needed.result c.number_of_words-needed.ensures (omega arith)
 
-find-all-requires : tie.Need-find-all-requires
-find-all-requires c κs = let told = c.before.before.before in sizes_small _ _ told.before.before.check-sizes.ensures told.enum_told.given.1
+find-all-requires : tie.Need-find_all-requires
+find-all-requires c κs = let told = c in sizes_small _ _ told.check_sizes.ensures told.in_default.is
 
-same_length : tie.Need-same-length
+same_length : tie.Need-shape_of-out
 same_length c = search rules
 
-returns-3 : tie.Need-returns-3
+returns-3 : tie.Need-returns
 returns-3 c =
-    let call = c.before.before.find-all in
+    let call = c.before.before.find_all in
     let else = c.before.before.before.before in
-    let number = else.before.number-of-words in
-    let told = else.before.before in
-    let start = told.before.before.before.before in
-    let fits : length (pattern_words start.args.alphabet.0 start.args.length.0) ≤ length start.args.out.now = omega (arith, number.ensures, else.if1.false) in
+    let number = else.before.number_of_words-needed in
+    let told = c in
+    let start = c in
+    let fits : length (pattern_words start.args.alphabet.0 start.args.length.0) ≤ length start.args.out.now = omega (arith, number.ensures, else.if-needed-out.false) in
     ap (writing number.result 0 0 0) (call.ensures.1 ∙ stored-all _ _ fits)
-    ∙ list_written _ _ told.before.before.check-sizes.ensures told.enum_told.given.1 _ number.result number.ensures fits
+    ∙ list_written _ _ told.check_sizes.ensures told.in_default.is _ number.result number.ensures fits
 
-pub list-square-free-spec : {M : Type 1} → statement M
-list-square-free-spec =
+pub list_square_free_spec : {M : Type 1} → statement M
+list_square_free_spec =
     tie.close (tie.spec check-sizes-requires enum-known-refusal returns enum_told number-of-words-requires returns-2 find-all-requires same_length returns-3)

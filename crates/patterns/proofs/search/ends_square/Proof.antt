@@ -22,102 +22,102 @@ record Passed (totals : List ℕ) (at whole half : ℕ) : Type 0 where
   to : half ≤ 2 ^ 16
   apart : (q : ℕ) → 1 ≤ q → q < half → halves_agree (drop at totals) q ≡ false
 
-abbrev invariant-loop : tie.invariant-loop
+abbrev invariant-loop : tie.invariant-loop-half
 invariant-loop totals at whole half₀ half = Passed totals at whole half
 
-abbrev decreases-loop : tie.decreases-loop
+abbrev decreases-loop : tie.decreases-loop-half
 decreases-loop totals at whole half₀ half = length totals - half
 
-mul-whole : tie.Need-overflow-mul-whole invariant-loop decreases-loop
+mul-whole : tie.Need-offset_bounds-totals-at invariant-loop decreases-loop
 mul-whole c = search rules
 
-shared-slice-read-whole : tie.Need-shared-slice-read-whole invariant-loop decreases-loop
+shared-slice-read-whole : tie.Need-bounds-totals-at invariant-loop decreases-loop
 shared-slice-read-whole c = search rules
 
-loop-holds : tie.Need-loop-init invariant-loop decreases-loop
+loop-holds : tie.Need-loop-half-init invariant-loop decreases-loop
 loop-holds c = record { first = refl; from = omega arith; to = omega arith; apart = λ q l m. absurd (omega arith) }
 
-mul-loop : tie.Need-overflow-mul-loop invariant-loop decreases-loop
+mul-loop : tie.Need-overflow_mul-half invariant-loop decreases-loop
 unfolding longest_square_free
 mul-loop c = search rules
 
-add-loop : tie.Need-overflow-add-loop invariant-loop decreases-loop
+add-loop : tie.Need-overflow_add-at invariant-loop decreases-loop
 unfolding longest_square_free
 add-loop c = search rules
 
-add-middle : tie.Need-overflow-add-middle invariant-loop decreases-loop
+add-middle : tie.Need-overflow_add-middle invariant-loop decreases-loop
 add-middle c = search rules
 
-mul-middle : tie.Need-overflow-mul-middle invariant-loop decreases-loop
+mul-middle : tie.Need-offset_bounds-totals-at-in-loop-half invariant-loop decreases-loop
 mul-middle c = search rules
 
-shared-slice-read-middle : tie.Need-shared-slice-read-middle invariant-loop decreases-loop
+shared-slice-read-middle : tie.Need-bounds-totals-at-in-loop-half invariant-loop decreases-loop
 shared-slice-read-middle c = search rules
 
-mul-front : tie.Need-overflow-mul-front invariant-loop decreases-loop
+mul-front : tie.Need-overflow_mul-front invariant-loop decreases-loop
 mul-front c = search rules
 
-add-front : tie.Need-overflow-add-front invariant-loop decreases-loop
+add-front : tie.Need-overflow_add-front invariant-loop decreases-loop
 add-front c = search rules
 
-mul-front-2 : tie.Need-overflow-mul-front-2 invariant-loop decreases-loop
+mul-front-2 : tie.Need-offset_bounds-totals-at-in-loop-half-2 invariant-loop decreases-loop
 mul-front-2 c = search rules
 
-shared-slice-read-front : tie.Need-shared-slice-read-front invariant-loop decreases-loop
+shared-slice-read-front : tie.Need-bounds-totals-at-in-loop-half-2 invariant-loop decreases-loop
 shared-slice-read-front c = search rules
 
-add-if1 : tie.Need-overflow-add-if1 invariant-loop decreases-loop
+add-if1 : tie.Need-overflow_add-whole invariant-loop decreases-loop
 unfolding longest_square_free
 add-if1 c =
     let start = c.before.before.before.before.before in
-    let l = c.before.before.before.loop in
+    let l = c.before.before.before.loop-half in
     let small = start.requires.small in
     record { fits = omega (arith, start.requires.short, small start.args.at (omega arith) (omega arith), small (start.args.at + 2 * l.half) (omega arith) (omega arith)) }
 
-mul-if1 : tie.Need-overflow-mul-if1 invariant-loop decreases-loop
+mul-if1 : tie.Need-overflow_mul-middle invariant-loop decreases-loop
 unfolding longest_square_free
 mul-if1 c =
     let start = c.before.before.before.before.before in
-    let l = c.before.before.before.loop in
+    let l = c.before.before.before.loop-half in
     record { fits = omega (arith, start.requires.short, start.requires.small (start.args.at + l.half) (omega arith) (omega arith)) }
 
-returns : tie.Need-returns invariant-loop decreases-loop
+returns : tie.Need-returns-then-whole-front invariant-loop decreases-loop
 returns c =
     let start = c.before.before.before.before.before.before in
-    let l = c.before.before.before.before.loop in
+    let l = c.before.before.before.before.loop-half in
     let totals = start.args.totals.now in
     agree_ends (drop start.args.at totals) l.half l.invariant.from (omega (arith, length-drop start.args.at totals))
-    (sym (agree_at totals start.args.at l.half) ∙ eq-eqb _ _ c.if1.true)
+    (sym (agree_at totals start.args.at l.half) ∙ eq-eqb _ _ c.if-whole-front.true)
 
-add_half : tie.Need-overflow-add-half invariant-loop decreases-loop
+add_half : tie.Need-overflow_add-half invariant-loop decreases-loop
 add_half c = search rules
 
-loop-less : tie.Need-loop-smaller invariant-loop decreases-loop
+loop-less : tie.Need-loop-half-smaller invariant-loop decreases-loop
 loop-less c = search rules
 
-loop-again : tie.Need-loop-preserved invariant-loop decreases-loop
+loop-again : tie.Need-loop-half-preserved invariant-loop decreases-loop
 unfolding longest_square_free
 loop-again c =
     let start = c.before.before.before.before.before.before in
-    let l = c.before.before.before.before.loop in
+    let l = c.before.before.before.before.loop-half in
     let totals = start.args.totals.now in
     record {
       first = refl;
       from = omega arith;
       to = omega arith;
       apart = λ q f t. ⊎_elim
-          (λ (e : q ≡ l.half). ap (halves_agree (drop start.args.at totals)) e ∙ sym (agree_at totals start.args.at l.half) ∙ ne_eqb _ _ c.if1.false)
+          (λ (e : q ≡ l.half). ap (halves_agree (drop start.args.at totals)) e ∙ sym (agree_at totals start.args.at l.half) ∙ ne_eqb _ _ c.if-whole-front.false)
           (l.invariant.apart q f)
           (eq-or-lt_of_le (omega arith));
     }
 
-returns-2 : tie.Need-returns-2 invariant-loop decreases-loop
+returns-2 : tie.Need-returns invariant-loop decreases-loop
 returns-2 c =
     let start = c.before.before.before in
-    apart_ends (drop start.args.at start.args.totals.now) (λ q f t. c.before.loop.invariant.apart q f (omega (arith, length-drop start.args.at start.args.totals.now)))
+    apart_ends (drop start.args.at start.args.totals.now) (λ q f t. c.before.loop-half.invariant.apart q f (omega (arith, length-drop start.args.at start.args.totals.now)))
 
-pub ends-square-spec : {M : Type 1} → statement M
-ends-square-spec =
+pub ends_square_spec : {M : Type 1} → statement M
+ends_square_spec =
     tie.close
     (tie.spec
     invariant-loop
