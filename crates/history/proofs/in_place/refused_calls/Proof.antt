@@ -9,17 +9,17 @@ use Rattle.history.proofs.Replays.{refused_counts}
 use Rattle.history.proofs.in_place.refused_calls.Statement.{statement}
 use Rattle.history.proofs.in_place.refused_calls.Tie as tie
 
-enum_told : tie.Need-enum-told
+enum_told : tie.Need-enum_told-1
 enum_told c = search rules
 
-enum-told-2 : tie.Need-enum-told-2
+enum-told-2 : tie.Need-enum_told-in-Refused
 enum-told-2 c = search rules
 
-returns : tie.Need-returns
-returns c = ap (λ (o : Outcome). one (ltb 0 (answered_outcome o).number)) (sym c.enum_told.given.1)
+returns : tie.Need-returns-in-Accepted
+returns c = ap (λ (o : Outcome). one (ltb 0 (answered_outcome o).number)) (sym c.in-Accepted.is)
 
-returns-2 : tie.Need-returns-2
-returns-2 c = sym (refused_counts _ _ c.enum-told2.given.1)
+returns-2 : tie.Need-returns-in-Refused
+returns-2 c = sym (refused_counts _ _ c.in-Refused.is)
 
-pub refused-calls-spec : {M : Type 1} → statement M
-refused-calls-spec = tie.close (tie.spec enum_told enum-told-2 returns returns-2)
+pub refused_calls_spec : {M : Type 1} → statement M
+refused_calls_spec = tie.close (tie.spec enum_told enum-told-2 returns returns-2)
