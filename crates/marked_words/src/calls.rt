@@ -13,6 +13,8 @@ use patterns::{count_square_free, list_square_free};
 use report::{count_report, report};
 use runs::{count_runs, list_runs};
 use squares::{count_squares, list_squares};
+use std::io;
+use std::io::Write;
 use windows::{count_windows, list_windows};
 
 // Room for a record that is one byte too long.
@@ -70,31 +72,43 @@ fn count_free_words(body: &[u8]) -> Needed {
 
 // Makes the list call that is known by the letter, and prints those of its numbers that are no words. The record is for the call of windows alone,
 // whose pattern is the body; of square-free words the body is their two numbers.
-fn list(call: u8, body: &[u8], record: &[u8], out: &mut [u32]) -> Wrote {
+fn list<W: Write>(
+    to: &mut W,
+    call: u8,
+    body: &[u8],
+    record: &[u8],
+    out: &mut [u32],
+) -> io::Result<Wrote> {
     match call {
-        b'n' => say_trials(list_plain(body, out)),
-        b'g' => say_trials(list_skipping(body, out)),
-        b'l' => list_full(body, out),
-        b'd' => say_scale(list_full_scaled(body, out)),
-        b's' => list_squares(body, out),
-        b'f' => list_runs(body, out),
-        b'w' => list_windows(body, record, out),
-        b'q' => list_free_words(body, out),
-        b'y' => replayed(body, out),
-        b'k' => tracked(body, out),
-        _ => report(body, out),
+        b'n' => say_trials(to, list_plain(body, out)),
+        b'g' => say_trials(to, list_skipping(body, out)),
+        b'l' => Ok(list_full(body, out)),
+        b'd' => say_scale(to, list_full_scaled(body, out)),
+        b's' => Ok(list_squares(body, out)),
+        b'f' => Ok(list_runs(body, out)),
+        b'w' => Ok(list_windows(body, record, out)),
+        b'q' => Ok(list_free_words(body, out)),
+        b'y' => replayed(to, body, out),
+        b'k' => tracked(to, body, out),
+        _ => Ok(report(body, out)),
     }
 }
 
 // Makes a list call with a slice of so many places, all unwritten, and prints what it answered and how many places are as they were.
-fn run_list(call: u8, places: usize, body: &[u8], record: &[u8])
+fn run_list<W: Write>(
+    to: &mut W,
+    call: u8,
+    places: usize,
+    body: &[u8],
+    record: &[u8],
+) -> io::Result<()>
     requires { places ≤ 99 }
 {
     let mut all = [UNWRITTEN; 99];
     let out = &mut all[..places];
-    let wrote = list(call, body, record, out);
-    say_wrote(call == b't', wrote, out);
-    say_kept(out);
+    let wrote = list(to, call, body, record, out)?;
+    say_wrote(to, call == b't', wrote, out)?;
+    say_kept(to, out)
 }
 
 // Makes the count of the list call that is known by the letter. The record is for the count of windows alone, whose pattern is the word; of
@@ -114,11 +128,18 @@ fn count(call: u8, word: &[u8], record: &[u8]) -> Needed {
 }
 
 // Makes a list call with so many places, of which the two bytes are the digits, or its count where they are no digits but `??`.
-fn run_words(call: u8, first: u8, second: u8, body: &[u8], record: &[u8]) {
+fn run_words<W: Write>(
+    to: &mut W,
+    call: u8,
+    first: u8,
+    second: u8,
+    body: &[u8],
+    record: &[u8],
+) -> io::Result<()> {
     if first == b'?' {
-        say_needed(count(call, body, record));
+        say_needed(to, count(call, body, record))
     } else {
-        run_list(call, 10 * digit(first) + digit(second), body, record);
+        run_list(to, call, 10 * digit(first) + digit(second), body, record)
     }
 }
 
@@ -132,49 +153,68 @@ fn filled(byte: u8, place: usize, other: u8) -> [u8; ROOM]
 }
 
 // Makes a call of windows on a long record, which is the text's second byte so many times and then its third.
-fn run_long(first: u8, second: u8, pattern: &[u8], text: &[u8], times: usize)
+fn run_long<W: Write>(
+    to: &mut W,
+    first: u8,
+    second: u8,
+    pattern: &[u8],
+    text: &[u8],
+    times: usize,
+) -> io::Result<()>
     requires { (length text.now ≡ 3) × (times ≤ 65536) }
 {
     let bytes = filled(text[1], times, text[2]);
-    run_words(b'w', first, second, pattern, &bytes[0..times + 1]);
+    run_words(to, b'w', first, second, pattern, &bytes[0..times + 1])
 }
 
 // Makes a call of windows on the record that a text stands for: a long one if the text has three bytes of which the first is `*` or `#`, and
 // else the text itself.
-fn run_record(first: u8, second: u8, pattern: &[u8], text: &[u8]) {
+fn run_record<W: Write>(
+    to: &mut W,
+    first: u8,
+    second: u8,
+    pattern: &[u8],
+    text: &[u8],
+) -> io::Result<()> {
     if text.len() != 3 {
-        return run_words(b'w', first, second, pattern, text);
+        return run_words(to, b'w', first, second, pattern, text);
     }
     match text[0] {
-        b'*' => run_long(first, second, pattern, text, LONGEST_RECORD - 1),
-        b'#' => run_long(first, second, pattern, text, LONGEST_RECORD),
-        _ => run_words(b'w', first, second, pattern, text),
+        b'*' => run_long(to, first, second, pattern, text, LONGEST_RECORD - 1),
+        b'#' => run_long(to, first, second, pattern, text, LONGEST_RECORD),
+        _ => run_words(to, b'w', first, second, pattern, text),
     }
 }
 
 // Makes a call of windows on the pattern before the first `@` and the record behind it, which is empty where there is no `@`.
-fn run_windows(first: u8, second: u8, body: &[u8]) {
+fn run_windows<W: Write>(to: &mut W, first: u8, second: u8, body: &[u8]) -> io::Result<()> {
     let end = next(body, 0, b'@');
     let pattern = &body[0..end];
     if end < body.len() {
-        run_record(first, second, pattern, &body[end + 1..]);
+        run_record(to, first, second, pattern, &body[end + 1..])
     } else {
-        run_record(first, second, pattern, b"");
+        run_record(to, first, second, pattern, b"")
     }
 }
 
 // Makes the judge's call, and prints what it answered.
-fn run_judge(head: Head, period: Period, word: &[u8]) {
-    say_verdict(judge(word, head, period));
+fn run_judge<W: Write>(to: &mut W, head: Head, period: Period, word: &[u8]) -> io::Result<()> {
+    say_verdict(to, judge(word, head, period))
 }
 
 // Makes the call that is known by the letter, and prints what it answered. The two bytes are the judge's head and period, or say with how many
 // places a list is called, or that it is counted.
-pub(crate) fn run_call(call: u8, first: u8, second: u8, body: &[u8]) {
+pub(crate) fn run_call<W: Write>(
+    to: &mut W,
+    call: u8,
+    first: u8,
+    second: u8,
+    body: &[u8],
+) -> io::Result<()> {
     match call {
-        b'e' => run_judge(Head(quantity(first)), Period(quantity(second)), body),
-        b'r' => say_covered(find_cover(body)),
-        b'w' => run_windows(first, second, body),
-        _ => run_words(call, first, second, body, b""),
+        b'e' => run_judge(to, Head(quantity(first)), Period(quantity(second)), body),
+        b'r' => say_covered(to, find_cover(body)),
+        b'w' => run_windows(to, first, second, body),
+        _ => run_words(to, call, first, second, body, b""),
     }
 }

@@ -18,44 +18,51 @@
 //        track 40:abb-      a call of the tracker for each byte, `=` for its count, and then its list; the tracker is printed after each
 //
 // Any other line is a heading.
+#![tactic(auto)]
+
 mod answers;
 mod calls;
 mod text;
 mod tracked;
 
 use calls::run_call;
-use libc::STDIN_FILENO;
+use std::io;
+use std::io::{BufWriter, Read, Write};
 use text::{next, say};
 
 // Makes the call of a line, if it is no heading.
-fn run_line(line: &[u8]) {
+fn run_line<W: Write>(to: &mut W, line: &[u8]) -> io::Result<()> {
     if line.len() < 12 {
-        return;
+        return Ok(());
     }
     if line[11] == b':' {
-        run_call(line[7], line[9], line[10], &line[12..]);
+        run_call(to, line[7], line[9], line[10], &line[12..])?;
     }
+    Ok(())
 }
 
 // Prints a line with what its call answered.
-fn say_line(line: &[u8]) {
-    say(line);
-    run_line(line);
-    say(b"\n");
+fn say_line<W: Write>(to: &mut W, line: &[u8]) -> io::Result<()> {
+    say(to, line)?;
+    run_line(to, line)?;
+    say(to, b"\n")
 }
 
 // Goes through the lines of a text.
-fn run_lines(text: &[u8]) {
+fn run_lines<W: Write>(to: &mut W, text: &[u8]) -> io::Result<()> {
     let mut from = 0;
     while from < text.len() {
         let end = next(text, from, b'\n');
-        say_line(&text[from..end]);
+        say_line(to, &text[from..end])?;
         from = end + 1;
     }
+    Ok(())
 }
 
-fn main() {
-    let mut input = io::large_buffer();
-    let n = io::read_full(STDIN_FILENO, &mut input);
-    run_lines(&input[..n]);
+fn main(rt: HostRuntime) -> io::Result<()> {
+    let mut text = Vec::new(rt.alloc());
+    rt.reader().read_to_end(&mut text)?;
+    let mut to = BufWriter::new(rt.alloc(), io::writer(&rt))?;
+    run_lines(&mut to, &text)?;
+    to.flush()
 }

@@ -1,7 +1,8 @@
-// Where a text's parts end; and text on standard output: numbers, and the output words of a list by their kinds.
+// Where a text's parts end; and text that goes to a writer: numbers, and the output words of a list by their kinds.
 ghost use Rattle.std.specs.Prelude.{◌≤◌, length};
 
-use libc::STDOUT_FILENO;
+use std::io;
+use std::io::Write;
 
 // What one of an output word's kind counts.
 const KIND: u32 = 268435456;
@@ -22,105 +23,97 @@ pub(crate) fn next(text: &[u8], from: usize, byte: u8) -> usize
     requires { from ≤ length text.now }
     ensures { (from ≤ result) × (result ≤ length text.now) }
 {
-    let mut at = from;
-    while at < text.len() && text[at] != byte {
-        at += 1;
+    for at in from..text.len() {
+        if text[at] == byte {
+            return at;
+        }
     }
-    at
+    text.len()
 }
 
 // Prints bytes.
-pub(crate) fn say(text: &[u8]) {
-    io::write_all(STDOUT_FILENO, text);
+pub(crate) fn say<W: Write>(to: &mut W, text: &[u8]) -> io::Result<()> {
+    to.write_all(text)
 }
 
 // Begins a line with a sign.
-pub(crate) fn begin_line(sign: u8) {
-    say(&[b'\n', sign]);
+pub(crate) fn begin_line<W: Write>(to: &mut W, sign: u8) -> io::Result<()> {
+    say(to, &[b'\n', sign])
 }
 
 // Prints a number with a sign before it.
-pub(crate) fn say_number(sign: u8, n: usize) {
-    say(&[sign]);
-    io::print_decimal(STDOUT_FILENO, n as u64);
+pub(crate) fn say_number<W: Write>(to: &mut W, sign: u8, n: usize) -> io::Result<()> {
+    say(to, &[sign])?;
+    write!(to, "{n}")
 }
 
 // Prints a number with a name before it.
-pub(crate) fn say_named(name: &[u8], n: usize) {
-    say(name);
-    say_number(b' ', n);
+pub(crate) fn say_named<W: Write>(to: &mut W, name: &[u8], n: usize) -> io::Result<()> {
+    say(to, name)?;
+    say_number(to, b' ', n)
 }
 
 // Prints two numbers with a sign between them.
-fn say_two(first: u32, sign: u8, second: u32) {
-    say_number(b' ', first as usize);
-    say_number(sign, second as usize);
+fn say_two<W: Write>(to: &mut W, first: u32, sign: u8, second: u32) -> io::Result<()> {
+    say_number(to, b' ', first as usize)?;
+    say_number(to, sign, second as usize)
 }
 
 // Prints a place of a slice as the number that it is.
-fn say_place(place: u32) {
-    say_number(b' ', place as usize);
+fn say_place<W: Write>(to: &mut W, place: u32) -> io::Result<()> {
+    say_number(to, b' ', place as usize)
 }
 
 // Prints the second word of a run: j<left>right.
-fn say_hands(word: u32) {
+fn say_hands<W: Write>(to: &mut W, word: u32) -> io::Result<()> {
     let end = word % KIND / END;
     let left = word / LEFT % LEFT;
     let right = word % LEFT;
-    say_two(end, b'<', left);
-    say_number(b'>', right as usize);
+    say_two(to, end, b'<', left)?;
+    say_number(to, b'>', right as usize)
 }
 
 // Prints a window: @start.
-fn say_start(word: u32) {
+fn say_start<W: Write>(to: &mut W, word: u32) -> io::Result<()> {
     let start = word % KIND;
-    say(b" ");
-    say_number(b'@', start as usize);
+    say(to, b" ")?;
+    say_number(to, b'@', start as usize)
 }
 
 // Prints an output word by its kind: a period as h,p, a square as start:half, a full period as p*(n / p), a run as i/d and behind it its end
 // and its hands, a window as @start. A raw word, and one of any other kind, is printed as the number that it is.
-fn say_word(raw: bool, word: u32) {
+fn say_word<W: Write>(to: &mut W, raw: bool, word: u32) -> io::Result<()> {
     if raw {
-        return say_place(word);
+        return say_place(to, word);
     }
     let upper = word / UPPER % UPPER;
     let lower = word % UPPER;
     let kind = word / KIND;
     match kind {
-        1 => say_two(lower, b',', upper),
-        2 => say_two(lower, b':', upper),
-        3 => say_two(upper, b'*', lower),
-        5 => say_two(lower, b'/', upper),
-        6 => say_hands(word),
-        7 => say_start(word),
-        _ => say_place(word),
+        1 => say_two(to, lower, b',', upper),
+        2 => say_two(to, lower, b':', upper),
+        3 => say_two(to, upper, b'*', lower),
+        5 => say_two(to, lower, b'/', upper),
+        6 => say_hands(to, word),
+        7 => say_start(to, word),
+        _ => say_place(to, word),
     }
 }
 
 // Prints the first n places of a slice as output words.
-pub(crate) fn say_words(raw: bool, out: &[u32], n: usize) {
-    let mut i = 0;
-    while i < n && i < out.len() {
-        say_word(raw, out[i]);
-        i += 1;
+pub(crate) fn say_words<W: Write>(to: &mut W, raw: bool, out: &[u32], n: usize) -> io::Result<()> {
+    for word in out.iter().take(n) {
+        say_word(to, raw, *word)?;
     }
+    Ok(())
 }
 
 // How many places of a slice are unwritten.
 fn unwritten(out: &[u32]) -> usize {
-    let mut kept = 0;
-    let mut i = 0;
-    while i < out.len() {
-        if out[i] == UNWRITTEN {
-            kept += 1;
-        }
-        i += 1;
-    }
-    kept
+    out.iter().filter(|place| **place == UNWRITTEN).count()
 }
 
 // Prints how many places of a slice are as they were before a call.
-pub(crate) fn say_kept(out: &[u32]) {
-    say_named(b" kept", unwritten(out));
+pub(crate) fn say_kept<W: Write>(to: &mut W, out: &[u32]) -> io::Result<()> {
+    say_named(to, b" kept", unwritten(out))
 }
