@@ -7,11 +7,11 @@ use Rattle.luffbutton.proofs.luff_judge.Tie as tie
 judge-requires : tie.Need-judge-requires
 judge-requires c κs = search rules
 
-of-verdict-requires : tie.Need-of-verdict-requires
+of-verdict-requires : tie.Need-of_verdict-requires
 of-verdict-requires c κs = search rules
 
 returns : tie.Need-returns
-returns c = c.of-verdict.ensures ∙ c.before.judge.ensures
+returns c = c.of_verdict.ensures ∙ c.before.judge.ensures
 
-pub luff-judge-spec : {M : Type 1} → statement M
-luff-judge-spec = tie.close (tie.spec judge-requires of-verdict-requires returns)
+pub luff_judge_spec : {M : Type 1} → statement M
+luff_judge_spec = tie.close (tie.spec judge-requires of-verdict-requires returns)

@@ -4,17 +4,17 @@ use borrow.Author.Rules.{rules}
 use Rattle.luffbutton.proofs.luff_list_full.Statement.{statement}
 use Rattle.luffbutton.proofs.luff_list_full.Tie as tie
 
-list-full-requires : tie.Need-list-full-requires
+list-full-requires : tie.Need-list_full-requires
 list-full-requires c κs = search rules
 
-of-wrote-requires : tie.Need-of-wrote-requires
+of-wrote-requires : tie.Need-of_wrote-requires
 of-wrote-requires c κs = search rules
 
-same_length : tie.Need-same-length
+same_length : tie.Need-shape_of-out
 same_length c = search rules
 
 returns : tie.Need-returns
-returns c = c.of-wrote.ensures _ ∙ c.before.before.before.List-full.ensures
+returns c = c.of_wrote.ensures _ ∙ c.before.before.before.list_full.ensures
 
-pub luff-list-full-spec : {M : Type 1} → statement M
-luff-list-full-spec = tie.close (tie.spec list-full-requires of-wrote-requires same_length returns)
+pub luff_list_full_spec : {M : Type 1} → statement M
+luff_list_full_spec = tie.close (tie.spec list-full-requires of-wrote-requires same_length returns)

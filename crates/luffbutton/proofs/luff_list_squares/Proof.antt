@@ -4,18 +4,18 @@ use borrow.Author.Rules.{rules}
 use Rattle.luffbutton.proofs.luff_list_squares.Statement.{statement}
 use Rattle.luffbutton.proofs.luff_list_squares.Tie as tie
 
-list-squares-requires : tie.Need-list-squares-requires
+list-squares-requires : tie.Need-list_squares-requires
 list-squares-requires c κs = search rules
 
-of-wrote-requires : tie.Need-of-wrote-requires
+of-wrote-requires : tie.Need-of_wrote-requires
 of-wrote-requires c κs = search rules
 
-same_length : tie.Need-same-length
+same_length : tie.Need-shape_of-out
 same_length c = search rules
 
 returns : tie.Need-returns
-returns c = c.of-wrote.ensures _ ∙ c.before.before.before.list-squares.ensures
+returns c = c.of_wrote.ensures _ ∙ c.before.before.before.list_squares.ensures
 
-pub luff-list-squares-spec : {M : Type 1} → statement M
-luff-list-squares-spec =
+pub luff_list_squares_spec : {M : Type 1} → statement M
+luff_list_squares_spec =
     tie.close (tie.spec list-squares-requires of-wrote-requires same_length returns)

@@ -4,17 +4,17 @@ use borrow.Author.Rules.{rules}
 use Rattle.luffbutton.proofs.luff_list_windows.Statement.{statement}
 use Rattle.luffbutton.proofs.luff_list_windows.Tie as tie
 
-list-windows-requires : tie.Need-list-windows-requires
+list-windows-requires : tie.Need-list_windows-requires
 list-windows-requires c κs = search rules
 
-of-wrote-requires : tie.Need-of-wrote-requires
+of-wrote-requires : tie.Need-of_wrote-requires
 of-wrote-requires c κs = search rules
 
-same_length : tie.Need-same-length
+same_length : tie.Need-shape_of-out
 same_length c = search rules
 
 returns : tie.Need-returns
-returns c = c.of-wrote.ensures _ ∙ c.before.before.before.list-windows.ensures
+returns c = c.of_wrote.ensures _ ∙ c.before.before.before.list_windows.ensures
 
-pub luff-list-windows-spec : {M : Type 1} → statement M
-luff-list-windows-spec = tie.close (tie.spec list-windows-requires of-wrote-requires same_length returns)
+pub luff_list_windows_spec : {M : Type 1} → statement M
+luff_list_windows_spec = tie.close (tie.spec list-windows-requires of-wrote-requires same_length returns)

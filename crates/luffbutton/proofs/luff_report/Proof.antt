@@ -7,14 +7,14 @@ use Rattle.luffbutton.proofs.luff_report.Tie as tie
 report-requires : tie.Need-report-requires
 report-requires c κs = search rules
 
-of-wrote-requires : tie.Need-of-wrote-requires
+of-wrote-requires : tie.Need-of_wrote-requires
 of-wrote-requires c κs = search rules
 
-same_length : tie.Need-same-length
+same_length : tie.Need-shape_of-out
 same_length c = search rules
 
 returns : tie.Need-returns
-returns c = c.of-wrote.ensures _ ∙ c.before.before.before.report.ensures
+returns c = c.of_wrote.ensures _ ∙ c.before.before.before.report.ensures
 
-pub luff-report-spec : {M : Type 1} → statement M
-luff-report-spec = tie.close (tie.spec report-requires of-wrote-requires same_length returns)
+pub luff_report_spec : {M : Type 1} → statement M
+luff_report_spec = tie.close (tie.spec report-requires of-wrote-requires same_length returns)

@@ -4,14 +4,14 @@ use borrow.Author.Rules.{rules}
 use Rattle.luffbutton.proofs.counts.luff_count_full.Statement.{statement}
 use Rattle.luffbutton.proofs.counts.luff_count_full.Tie as tie
 
-count-full-requires : tie.Need-count-full-requires
+count-full-requires : tie.Need-count_full-requires
 count-full-requires c κs = search rules
 
-of-needed-requires : tie.Need-of-needed-requires
+of-needed-requires : tie.Need-of_needed-requires
 of-needed-requires c κs = search rules
 
 returns : tie.Need-returns
-returns c = c.of-needed.ensures ∙ c.before.count-full.ensures
+returns c = c.of_needed.ensures ∙ c.before.count_full.ensures
 
-pub luff-count-full-spec : {M : Type 1} → statement M
-luff-count-full-spec = tie.close (tie.spec count-full-requires of-needed-requires returns)
+pub luff_count_full_spec : {M : Type 1} → statement M
+luff_count_full_spec = tie.close (tie.spec count-full-requires of-needed-requires returns)

@@ -4,14 +4,14 @@ use borrow.Author.Rules.{rules}
 use Rattle.luffbutton.proofs.counts.luff_count_report.Statement.{statement}
 use Rattle.luffbutton.proofs.counts.luff_count_report.Tie as tie
 
-count-report-requires : tie.Need-count-report-requires
+count-report-requires : tie.Need-count_report-requires
 count-report-requires c κs = search rules
 
-of-needed-requires : tie.Need-of-needed-requires
+of-needed-requires : tie.Need-of_needed-requires
 of-needed-requires c κs = search rules
 
 returns : tie.Need-returns
-returns c = c.of-needed.ensures ∙ c.before.count-report.ensures
+returns c = c.of_needed.ensures ∙ c.before.count_report.ensures
 
-pub luff-count-report-spec : {M : Type 1} → statement M
-luff-count-report-spec = tie.close (tie.spec count-report-requires of-needed-requires returns)
+pub luff_count_report_spec : {M : Type 1} → statement M
+luff_count_report_spec = tie.close (tie.spec count-report-requires of-needed-requires returns)

@@ -4,14 +4,14 @@ use borrow.Author.Rules.{rules}
 use Rattle.luffbutton.proofs.counts.luff_count_skipping.Statement.{statement}
 use Rattle.luffbutton.proofs.counts.luff_count_skipping.Tie as tie
 
-count-skipping-requires : tie.Need-count-skipping-requires
+count-skipping-requires : tie.Need-count_skipping-requires
 count-skipping-requires c κs = search rules
 
-of-needed-requires : tie.Need-of-needed-requires
+of-needed-requires : tie.Need-of_needed-requires
 of-needed-requires c κs = search rules
 
 returns : tie.Need-returns
-returns c = c.of-needed.ensures ∙ c.before.count-skipping.ensures
+returns c = c.of_needed.ensures ∙ c.before.count_skipping.ensures
 
-pub luff-count-skipping-spec : {M : Type 1} → statement M
-luff-count-skipping-spec = tie.close (tie.spec count-skipping-requires of-needed-requires returns)
+pub luff_count_skipping_spec : {M : Type 1} → statement M
+luff_count_skipping_spec = tie.close (tie.spec count-skipping-requires of-needed-requires returns)

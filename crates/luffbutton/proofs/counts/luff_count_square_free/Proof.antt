@@ -4,14 +4,14 @@ use borrow.Author.Rules.{rules}
 use Rattle.luffbutton.proofs.counts.luff_count_square_free.Statement.{statement}
 use Rattle.luffbutton.proofs.counts.luff_count_square_free.Tie as tie
 
-count-square-free-requires : tie.Need-count-square-free-requires
+count-square-free-requires : tie.Need-count_square_free-requires
 count-square-free-requires c κs = search rules
 
-of-needed-requires : tie.Need-of-needed-requires
+of-needed-requires : tie.Need-of_needed-requires
 of-needed-requires c κs = search rules
 
 returns : tie.Need-returns
-returns c = c.of-needed.ensures ∙ c.before.count-square-free.ensures
+returns c = c.of_needed.ensures ∙ c.before.count_square_free.ensures
 
-pub luff-count-square-free-spec : {M : Type 1} → statement M
-luff-count-square-free-spec = tie.close (tie.spec count-square-free-requires of-needed-requires returns)
+pub luff_count_square_free_spec : {M : Type 1} → statement M
+luff_count_square_free_spec = tie.close (tie.spec count-square-free-requires of-needed-requires returns)

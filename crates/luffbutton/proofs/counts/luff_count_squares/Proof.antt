@@ -4,14 +4,14 @@ use borrow.Author.Rules.{rules}
 use Rattle.luffbutton.proofs.counts.luff_count_squares.Statement.{statement}
 use Rattle.luffbutton.proofs.counts.luff_count_squares.Tie as tie
 
-count-squares-requires : tie.Need-count-squares-requires
+count-squares-requires : tie.Need-count_squares-requires
 count-squares-requires c κs = search rules
 
-of-needed-requires : tie.Need-of-needed-requires
+of-needed-requires : tie.Need-of_needed-requires
 of-needed-requires c κs = search rules
 
 returns : tie.Need-returns
-returns c = c.of-needed.ensures ∙ c.before.count-squares.ensures
+returns c = c.of_needed.ensures ∙ c.before.count_squares.ensures
 
-pub luff-count-squares-spec : {M : Type 1} → statement M
-luff-count-squares-spec = tie.close (tie.spec count-squares-requires of-needed-requires returns)
+pub luff_count_squares_spec : {M : Type 1} → statement M
+luff_count_squares_spec = tie.close (tie.spec count-squares-requires of-needed-requires returns)

@@ -4,14 +4,14 @@ use borrow.Author.Rules.{rules}
 use Rattle.luffbutton.proofs.counts.luff_count_windows.Statement.{statement}
 use Rattle.luffbutton.proofs.counts.luff_count_windows.Tie as tie
 
-count-windows-requires : tie.Need-count-windows-requires
+count-windows-requires : tie.Need-count_windows-requires
 count-windows-requires c κs = search rules
 
-of-needed-requires : tie.Need-of-needed-requires
+of-needed-requires : tie.Need-of_needed-requires
 of-needed-requires c κs = search rules
 
 returns : tie.Need-returns
-returns c = c.of-needed.ensures ∙ c.before.count-windows.ensures
+returns c = c.of_needed.ensures ∙ c.before.count_windows.ensures
 
-pub luff-count-windows-spec : {M : Type 1} → statement M
-luff-count-windows-spec = tie.close (tie.spec count-windows-requires of-needed-requires returns)
+pub luff_count_windows_spec : {M : Type 1} → statement M
+luff_count_windows_spec = tie.close (tie.spec count-windows-requires of-needed-requires returns)

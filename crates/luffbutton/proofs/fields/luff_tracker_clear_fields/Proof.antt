@@ -8,11 +8,11 @@ use Rattle.luffbutton.proofs.fields.luff_tracker_clear_fields.Tie as tie
 clear-requires : tie.Need-clear-requires
 clear-requires c κs = search rules
 
-of-outcome-requires : tie.Need-of-outcome-requires
+of-outcome-requires : tie.Need-of_outcome-requires
 of-outcome-requires c κs = search rules
 
 returns : tie.Need-returns
-returns c = ap (as_step _) c.of-outcome.ensures ∙ c.before.clear.ensures
+returns c = ap (as_step _) c.of_outcome.ensures ∙ c.before.clear.ensures
 
-pub luff-tracker-clear-fields-spec : {M : Type 1} → statement M
-luff-tracker-clear-fields-spec = tie.close (tie.spec clear-requires of-outcome-requires returns)
+pub luff_tracker_clear_fields_spec : {M : Type 1} → statement M
+luff_tracker_clear_fields_spec = tie.close (tie.spec clear-requires of-outcome-requires returns)

@@ -8,11 +8,11 @@ use Rattle.luffbutton.proofs.fields.luff_tracker_count_fields.Tie as tie
 count-requires : tie.Need-count-requires
 count-requires c κs = search rules
 
-of-needed-requires : tie.Need-of-needed-requires
+of-needed-requires : tie.Need-of_needed-requires
 of-needed-requires c κs = search rules
 
 returns : tie.Need-returns
-returns c live ended = ap (as_step _) c.of-needed.ensures ∙ c.before.count.ensures live ended
+returns c live ended = ap (as_step _) c.of_needed.ensures ∙ c.before.count.ensures live ended
 
-pub luff-tracker-count-fields-spec : {M : Type 1} → statement M
-luff-tracker-count-fields-spec = tie.close (tie.spec count-requires of-needed-requires returns)
+pub luff_tracker_count_fields_spec : {M : Type 1} → statement M
+luff_tracker_count_fields_spec = tie.close (tie.spec count-requires of-needed-requires returns)

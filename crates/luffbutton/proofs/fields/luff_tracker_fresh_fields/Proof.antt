@@ -12,5 +12,5 @@ returns : tie.Need-returns
 unfolding clearing
 returns c = ap (λ (s : Step). s.tracker) c.clear.ensures
 
-pub luff-tracker-fresh-fields-spec : {M : Type 1} → statement M
-luff-tracker-fresh-fields-spec = tie.close (tie.spec clear-requires returns)
+pub luff_tracker_fresh_fields_spec : {M : Type 1} → statement M
+luff_tracker_fresh_fields_spec = tie.close (tie.spec clear-requires returns)

@@ -14,5 +14,5 @@ value-requires c κs = search rules
 returns : tie.Need-returns
 returns c out = ap₂ (λ n v. list_answer n v 0 0 0 0 out) c.before.number.ensures c.value.ensures
 
-pub of-refusal-spec : {M : Type 1} → statement M
-of-refusal-spec = tie.close (tie.spec number-requires value-requires returns)
+pub of_refusal_spec : {M : Type 1} → statement M
+of_refusal_spec = tie.close (tie.spec number-requires value-requires returns)

@@ -6,32 +6,32 @@ use borrow.Author.Rules.{rules}
 use Rattle.luffbutton.proofs.numbers.of_verdict.Statement.{statement}
 use Rattle.luffbutton.proofs.numbers.of_verdict.Tie as tie
 
-enum_told : tie.Need-enum-told
+enum_told : tie.Need-enum_told-1
 enum_told c = search rules
 
-enum-known-verdict : tie.Need-enum-known-verdict
+enum-known-verdict : tie.Need-enum_known-verdict
 enum-known-verdict c = search rules
 
-cast-t7 : tie.Need-overflow-cast-t7
+cast-t7 : tie.Need-overflow_cast-result
 cast-t7 c = search rules
 
-enum-known-verdict-2 : tie.Need-enum-known-verdict-2
+enum-known-verdict-2 : tie.Need-enum_known-verdict-in-Refused-1
 enum-known-verdict-2 c = search rules
 
-of-refusal-requires : tie.Need-of-refusal-requires
+of-refusal-requires : tie.Need-of_refusal-given-requires
 of-refusal-requires c κs = search rules
 
-returns : tie.Need-returns
-returns c = ap answered_verdict (sym c.enum_told.given.1)
+returns : tie.Need-returns-in-Yes
+returns c = ap answered_verdict (sym c.in-Yes.is)
 
-returns-2 : tie.Need-returns-2
-returns-2 c = ap answered_verdict (sym c.before.verdict.given.1)
+returns-2 : tie.Need-returns-in-No
+returns-2 c = ap answered_verdict (sym c.in-No.is)
 
-returns-3 : tie.Need-returns-3
-returns-3 c = c.of-refusal.ensures [] ∙ ap answered_verdict (sym c.before.before.verdict2.given.1)
+returns-3 : tie.Need-returns-in-Refused
+returns-3 c = c.of_refusal-given.ensures [] ∙ ap answered_verdict (sym c.in-Refused.is)
 
-pub of-verdict-spec : {M : Type 1} → statement M
-of-verdict-spec =
+pub of_verdict_spec : {M : Type 1} → statement M
+of_verdict_spec =
     tie.close
     (tie.spec
     enum_told
