@@ -65,7 +65,7 @@ fn first_failure(word: &[u8], head: Head, period: Period) -> Verdict
     let first = count_block(word, head, period, 1);
     let mut block = 0;
     'blocks: loop {
-        let counts = count_block(word, Head(h), Period(p), block);
+        let counts = count_block(word, head, period, block);
         let end = block == 0 || block > whole;
         let mut letter = 0;
         while letter < LETTERS {
@@ -93,7 +93,7 @@ pub fn judge(word: &[u8], head: Head, period: Period) -> Verdict
     match words::check_word(word) {
         Outcome::Refused(refusal) => Verdict::Refused(refusal),
         Outcome::Accepted => {
-            if in_range(word.len(), Head(head.0), Period(period.0)) {
+            if in_range(word.len(), head, period) {
                 first_failure(word, head, period)
             } else {
                 Verdict::Refused(Refusal::PairOutOfRange)

@@ -9,7 +9,9 @@ use borrow.Author.Rules.{rules}
 use borrow.Author.Tests.{eq-eqb, ne_eqb}
 use Rattle.abelian.specs.Words.{alphabet_size, first_letter}
 use Rattle.abelian.specs.Periods.{Pair, pair, whole_blocks}
-use Rattle.abelian.specs.Judge.{is_end, breaks}
+use Rattle.abelian.specs.Judge.{is_end, breaks, failures}
+use Rattle.abelian.specs.Answers.{deciding}
+use Rattle.abelian.specs.Calls.{first_failure}
 use Rattle.abelian.proofs.Pairs.{InRange, in_range_lem}
 use Rattle.judge.proofs.Blocks.{blocks_le_length, rule_at}
 use Rattle.judge.proofs.Failures.{Passed, Tried, next_letter, next_block, no_failure, failure_met}
@@ -18,16 +20,16 @@ use Rattle.judge.proofs.first_failure.Tie as tie
 use Rattle.judge.proofs.first_failure.Lts.{then-block-eq0, else-block-eq0}
 
 abbrev invariant-loop : tie.invariant-loop-letter
-invariant-loop word h p whole first block counts end letter₀ letter = (letter ≤ alphabet_size) × Tried word (pair h p) block letter
+invariant-loop word head period h p whole first block counts end letter₀ letter = (letter ≤ alphabet_size) × Tried word (pair h p) block letter
 
 abbrev decreases-loop : tie.decreases-loop-letter
-decreases-loop word h p whole first block counts end letter₀ letter = alphabet_size - letter
+decreases-loop word head period h p whole first block counts end letter₀ letter = alphabet_size - letter
 
 abbrev invariant-blocks2 : tie.invariant-blocks-2
-invariant-blocks2 word h p whole first block₀ block = (block ≤ whole_blocks (length word) (pair h p) + 1) × Passed word (pair h p) block
+invariant-blocks2 word head period h p whole first block₀ block = (block ≤ whole_blocks (length word) (pair h p) + 1) × Passed word (pair h p) block
 
 abbrev decreases-blocks2 : tie.decreases-blocks-2
-decreases-blocks2 word h p whole first block₀ block = whole_blocks (length word) (pair h p) + 2 - block
+decreases-blocks2 word head period h p whole first block₀ block = whole_blocks (length word) (pair h p) + 2 - block
 
 module _ (c : tie.Start invariant-loop decreases-loop invariant-blocks2 decreases-blocks2) where
   abbrev w : List ℕ
@@ -74,6 +76,7 @@ module _ (c : tie.Joined-block-eq0 invariant-loop decreases-loop invariant-block
       ]
 
 loop-holds : tie.Need-loop-letter-init invariant-loop decreases-loop invariant-blocks2 decreases-blocks2
+unfolding alphabet_size
 loop-holds c = (omega arith, refl)
 
 array-read-breaks-rule : tie.Need-bounds-counts-letter invariant-loop decreases-loop invariant-blocks2 decreases-blocks2
@@ -146,7 +149,9 @@ unfolding whole_blocks
 blocks2-again c =
     (omega (arith, c.if-block-whole.false), block-passed c.before)
 
-returns : tie.Need-returns-then-breaks_rule invariant-loop decreases-loop invariant-blocks2 decreases-blocks2
+-- the verdict at a letter that breaks the rule: its block, and its byte in words of the code
+returns : (c : tie.Then-breaks_rule invariant-loop decreases-loop invariant-blocks2 decreases-blocks2)
+    → deciding 0 (k (joined c.before)) (97 + j c.before) 0 ≡ first_failure (failures (w (s (joined c.before))) (x (s (joined c.before))))
 unfolding first_letter
 returns c =
     let t = c.before in
