@@ -63,36 +63,13 @@ count-letter-requires-2 c κs =
 add_left : tie.Need-overflow_add-left-in-loop-left invariant-loop decreases-loop
 add_left c = search rules
 
-loop-less : tie.Need-loop-left-smaller-then-differ-eq0 invariant-loop decreases-loop
-loop-less c = search rules
-
-loop-again : tie.Need-loop-left-preserved-then-differ-eq0 invariant-loop decreases-loop
-loop-again c =
-    let both = c.before in
-    let counted = both.before.before.before.before in
-    let turn = counted.before.before.before.before in
-    let start = turn.before.before.before in
-    passed_found start.args.word.now start.requires.0 start.requires.1 turn.before.loop-left.invariant (between turn)
-    counted.count_letter-differ.ensures.0 counted.count_letter-differ.ensures.1 both.count_letter-differ-in-loop-left.ensures.0 both.count_letter-differ-in-loop-left.ensures.1 c.if-differ-eq0.true (omega arith)
-
-loop-less-2 : tie.Need-loop-left-smaller invariant-loop decreases-loop
-loop-less-2 c = search rules
-
-loop-again-2 : tie.Need-loop-left-preserved invariant-loop decreases-loop
-loop-again-2 c =
-    let both = c.before in
-    let counted = both.before.before.before.before in
-    let turn = counted.before.before.before.before in
-    let start = turn.before.before.before in
-    passed_on start.args.word.now start.requires.0 start.requires.1 turn.before.loop-left.invariant (between turn)
-    counted.count_letter-differ.ensures.0 counted.count_letter-differ.ensures.1 both.count_letter-differ-in-loop-left.ensures.0 both.count_letter-differ-in-loop-left.ensures.1 c.if-differ-eq0.false
-
 returns : tie.Need-returns invariant-loop decreases-loop
 returns c =
     let l = c.before.loop-left in
     l.invariant.smallest
     ∙ smallest_whole c.before.before.before.args.word.now l.left l.right l.invariant.parts l.invariant.order (omega arith)
 
+-- the two ways on from the loop's last test stand here and have no names of their own, so that they hold for another test too
 pub cover_length_spec : {M : Type 1} → statement M
 cover_length_spec =
     tie.close
@@ -107,8 +84,20 @@ cover_length_spec =
     shared-slice-read-count-letter-2
     count-letter-requires-2
     add_left
-    loop-less
-    loop-again
-    loop-less-2
-    loop-again-2
+    (λ c. search rules)
+    (λ c.
+    let both = c.before in
+    let counted = both.before.before.before.before in
+    let turn = counted.before.before.before.before in
+    passed_found c.args.word.now c.requires.0 c.requires.1 turn.before.loop-left.invariant (between turn)
+    counted.count_letter-differ.ensures.0 counted.count_letter-differ.ensures.1 both.count_letter-differ-in-loop-left.ensures.0 both.count_letter-differ-in-loop-left.ensures.1
+    (omega arith) (omega arith))
+    (λ c. search rules)
+    (λ c.
+    let both = c.before in
+    let counted = both.before.before.before.before in
+    let turn = counted.before.before.before.before in
+    passed_on c.args.word.now c.requires.0 c.requires.1 turn.before.loop-left.invariant (between turn)
+    counted.count_letter-differ.ensures.0 counted.count_letter-differ.ensures.1 both.count_letter-differ-in-loop-left.ensures.0 both.count_letter-differ-in-loop-left.ensures.1
+    (λ z. omega arith))
     returns)
