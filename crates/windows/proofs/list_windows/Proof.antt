@@ -44,27 +44,21 @@ enum_told c = search rules
 list-counted-requires : tie.Need-list_counted-requires
 list-counted-requires c κs = accepted c.before.before
 
-same_length : tie.Need-shape_of-out-then-out-record
-same_length c = search rules
-
-returns-2 : tie.Need-returns-then-out-record
-returns-2 c = search rules
-
 slide-requires : tie.Need-slide-written-requires
 slide-requires c κs = let told = c.before.before in readable (pattern told) (events told) (accepted told)
 
-same-length-2 : tie.Need-shape_of-out
-same-length-2 c = search rules
+same_length : tie.Need-shape_of-out
+same_length c = search rules
 
-returns-3 : tie.Need-returns
-returns-3 c =
+returns-2 : tie.Need-returns
+returns-2 c =
     let call = c.slide-written in
-    let else = c.before.before.before.before in
-    let told = else.before in
+    let told = c.before.before.before.before.before in
     let few = few_windows (pattern told) (events told) (readable (pattern told) (events told) (accepted told)).some in
-    ap (writing call.result 0 0 0) (call.ensures.1 ∙ fill_places-all (window_words (pattern told) (events told)) (out told) (omega (arith, few, else.if-out-record.false)))
-    ∙ list_written (pattern told) (events told) (accepted told) (out told) call.result call.ensures.0 (omega (arith, few, else.if-out-record.false))
+    ap (writing call.result 0 0 0) (call.ensures.1 ∙ fill_places-all (window_words (pattern told) (events told)) (out told) (omega (arith, few)))
+    ∙ list_written (pattern told) (events told) (accepted told) (out told) call.result call.ensures.0 (omega (arith, few))
 
+-- what stands in the list itself has the test's name in its type, which a must-fail edit may change
 pub list_windows_spec : {M : Type 1} → statement M
 list_windows_spec =
     tie.close
@@ -74,8 +68,8 @@ list_windows_spec =
     returns
     enum_told
     list-counted-requires
-    same_length
-    returns-2
+    (λ c. search rules)
+    (λ c. search rules)
     slide-requires
-    same-length-2
-    returns-3)
+    same_length
+    returns-2)
