@@ -9,24 +9,12 @@ use Rattle.patterns.proofs.Answers.{none_refused, more_refused, long_refused, si
 use Rattle.patterns.proofs.check_sizes.Statement.{statement}
 use Rattle.patterns.proofs.check_sizes.Tie as tie
 
-returns : tie.Need-returns-then-k-lt1
-unfolding largest_alphabet
-returns c =
-    let k = c.before.args.alphabet.0 in
-    let n = c.before.args.length.0 in
-    ap outcome_of (sym (⊎_elim (λ i. none_refused k n (omega arith)) (λ i. more_refused k n i.1) c.then-k-lt1.either))
-
-returns-2 : tie.Need-returns-then-n-gt-LONGEST_SQUARE_FREE
-unfolding largest_alphabet longest_square_free
-returns-2 c =
-    let start = c.before.before.before in
-    ap outcome_of (sym (long_refused start.args.alphabet.0 start.args.length.0 c.before.before.if-k-lt1.false (omega (arith, c.before.if-k-gt-LARGEST_ALPHABET.false)) (omega (arith, c.if-n-gt-LONGEST_SQUARE_FREE.true))))
-
-returns-3 : tie.Need-returns
-unfolding largest_alphabet longest_square_free
-returns-3 c =
-    let given = c.before.before.before.args in
-    ap outcome_of (sym (sizes_accepted given.alphabet.0 given.length.0 c.before.before.if-k-lt1.false (omega (arith, c.before.if-k-gt-LARGEST_ALPHABET.false)) (omega (arith, c.if-n-gt-LONGEST_SQUARE_FREE.false))))
-
+-- the three returns stand here and have no names of their own, so that they hold for another test too
 pub check_sizes_spec : {M : Type 1} → statement M
-check_sizes_spec = tie.close (tie.spec returns returns-2 returns-3)
+unfolding largest_alphabet longest_square_free
+check_sizes_spec =
+    tie.close
+    (tie.spec
+    (λ c. ap outcome_of (sym (⊎_elim (λ i. none_refused c.args.alphabet.0 c.args.length.0 (omega arith)) (λ i. more_refused c.args.alphabet.0 c.args.length.0 (omega (arith, i.1))) c.then-k-lt1.either)))
+    (λ c. ap outcome_of (sym (long_refused c.args.alphabet.0 c.args.length.0 (omega arith) (omega arith) (omega arith))))
+    (λ c. ap outcome_of (sym (sizes_accepted c.args.alphabet.0 c.args.length.0 (omega arith) (omega arith) (omega arith)))))

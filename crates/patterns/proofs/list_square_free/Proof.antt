@@ -27,28 +27,23 @@ enum_told c = search rules
 number-of-words-requires : tie.Need-number_of_words-needed-requires
 number-of-words-requires c κs = sizes_small _ _ c.check_sizes.ensures c.in_default.is
 
-returns-2 : tie.Need-returns-then-needed-out
-returns-2 c =
-    let told = c in
-    list_short _ _ told.check_sizes.ensures told.in_default.is _ c.number_of_words-needed.result c.number_of_words-needed.ensures (omega arith)
-
 find-all-requires : tie.Need-find_all-requires
-find-all-requires c κs = let told = c in sizes_small _ _ told.check_sizes.ensures told.in_default.is
+find-all-requires c κs = sizes_small _ _ c.check_sizes.ensures c.in_default.is
 
 same_length : tie.Need-shape_of-out
 same_length c = search rules
 
-returns-3 : tie.Need-returns
-returns-3 c =
-    let call = c.before.before.find_all in
-    let else = c.before.before.before.before in
-    let number = else.before.number_of_words-needed in
-    let told = c in
-    let start = c in
-    let fits : length (pattern_words start.args.alphabet.0 start.args.length.0) ≤ length start.args.out.now = omega (arith, number.ensures, else.if-needed-out.false) in
-    ap (writing number.result 0 0 0) (call.ensures.1 ∙ stored-all _ _ fits)
-    ∙ list_written _ _ told.check_sizes.ensures told.in_default.is _ number.result number.ensures fits
-
+-- the two returns behind the count stand here and have no names of their own, so that they hold for another test too
 pub list_square_free_spec : {M : Type 1} → statement M
 list_square_free_spec =
-    tie.close (tie.spec check-sizes-requires enum-known-refusal returns enum_told number-of-words-requires returns-2 find-all-requires same_length returns-3)
+    tie.close
+    (tie.spec check-sizes-requires enum-known-refusal returns enum_told number-of-words-requires
+    (λ c. list_short _ _ c.check_sizes.ensures c.in_default.is _ c.number_of_words-needed.result c.number_of_words-needed.ensures (omega arith))
+    find-all-requires
+    same_length
+    (λ c.
+    let call = c.find_all in
+    let number = c.number_of_words-needed in
+    let fits : length (pattern_words c.args.alphabet.0 c.args.length.0) ≤ length c.args.out.now = omega (arith, number.ensures) in
+    ap (writing number.result 0 0 0) (call.ensures.1 ∙ stored-all _ _ fits)
+    ∙ list_written _ _ c.check_sizes.ensures c.in_default.is _ number.result number.ensures fits))

@@ -51,16 +51,6 @@ module _ (t : ℕ) where
   add-result : search-lts.Need-overflow_add-result (claims t) (search-at t) search'.Post invariant-loop decreases-loop
   add-result c = record { fits = omega (arith, place_small c.before.before.before.before.before.before.before.requires.1.1.1) }
 
-  same_length : search-lts.Need-shape_of-out-then-last-eq0 (claims t) (search-at t) search'.Post invariant-loop decreases-loop
-  same_length c = c.store.auto.out
-
-  returns : search-lts.Need-returns-then-last-eq0 (claims t) (search-at t) search'.Post invariant-loop decreases-loop
-  unfolding found stored pattern_word
-  returns c =
-      let start = c.before.before.before.before.before.before.before in
-      let none_left : start.args.left.0 ≡ 0 = c.before.before.before.before.if-last-eq0.true in
-      rw none_left (refl, (refl, c.before.before.store.ensures))
-
   sub-next : search-lts.Need-overflow_sub-next (claims t) (search-at t) search'.Post invariant-loop decreases-loop
   sub-next c = search rules
 
@@ -162,14 +152,16 @@ module _ (t : ℕ) where
       let start = c.before.before.before.before.before in
       all_found start.args.alphabet.0 start.args.left.0 start.args.totals.now start.args.number start.args.at start.args.out.now (start.args.left.0 - 1) c.before.loop-c.invariant (omega arith)
 
+-- the return with no letter left stands here and has no name of its own, so that it holds for another test too
 pub +search_spec : {M : Type 1} → statement M
+unfolding found stored pattern_word
 +search_spec = close μ-search λ t.
     search-lts.spec (claims t) (search-at t) search'.Post invariant-loop decreases-loop
     (add-store t)
     (store-requires t)
     (add-result t)
-    (same_length t)
-    (returns t)
+    (λ c. c.store.auto.out)
+    (λ c. let none_left : c.args.left.0 ≡ 0 = omega arith in rw none_left (refl, (refl, c.store.ensures)))
     (sub-next t)
     (cast-base t)
     (mul-longer t)
