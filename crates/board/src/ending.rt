@@ -33,8 +33,8 @@ fn end_row(
     ensures board_after { board.new ≡ row_ended word.now period.0 board.old }
 {
     let n = word.len();
-    let start = row_start(Period(period.0));
-    let heads = row_heads(n, Period(period.0));
+    let start = row_start(period);
+    let heads = row_heads(n, period);
     let mut tried = 0;
     let mut ended = 0;
     let mut h = 0;
@@ -42,7 +42,7 @@ fn end_row(
         let at = start + h;
         if board[at] == 0 {
             tried += 1;
-            if !holds(word, counts, Head(h), Period(period.0)) {
+            if !holds(word, counts, Head(h), period) {
                 board[at] = n as u8;
                 ended += 1;
             }

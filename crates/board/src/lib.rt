@@ -105,7 +105,7 @@ fn write_row(row: &[u8], period: Period, out: &mut [u32], at: usize) -> usize
     let mut h = 0;
     while h < row.len() {
         if row[h] == 0 {
-            out[next] = period_word(Head(h), Period(period.0));
+            out[next] = period_word(Head(h), period);
             next += 1;
         }
         h += 1;

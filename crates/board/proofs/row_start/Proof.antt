@@ -26,41 +26,18 @@ falling : (p : ℕ) → 121 < p → 14520 - (241 - p) * (242 - p) / 2 ≡ row_st
 unfolding row_start
 falling p l = rw (lt-leb p 121 l)
 
-mul-result : tie.Need-overflow_mul-result
-mul-result c = product_fits _ _ (omega arith) (omega arith)
-
-sub-result : tie.Need-overflow_sub-result
-sub-result c = le-product _ _ (omega arith)
-
-sub-result-2 : tie.Need-overflow_sub-result-else-p-le121
-unfolding longest
-sub-result-2 c = omega arith
-
-sub-result-3 : tie.Need-overflow_sub-result-else-p-le121-2
-unfolding longest
-sub-result-3 c = omega arith
-
-mul-result-2 : tie.Need-overflow_mul-result-else-p-le121
-mul-result-2 c = product_fits _ _ (omega arith) (omega arith)
-
-sub-result-4 : tie.Need-overflow_sub-result-else-p-le121-3
-sub-result-4 c = half_product _ _ (omega arith) (omega arith)
-
-returns : tie.Need-returns-then-p-le121
-returns c = rising _ (omega arith)
-
-returns-2 : tie.Need-returns-else-p-le121
-returns-2 c = falling _ (omega arith)
-
+-- the goals in the code's order: the product and the difference of the rising rows; the two factors, their product and the difference of the
+-- falling ones; the two results
 pub row_start_spec : {M : Type 1} → statement M
+unfolding longest
 row_start_spec =
     tie.close
     (tie.spec
-    mul-result
-    sub-result
-    sub-result-2
-    sub-result-3
-    mul-result-2
-    sub-result-4
-    returns
-    returns-2)
+    (λ c. product_fits _ _ (omega arith) (omega arith))
+    (λ c. le-product _ _ (omega arith))
+    (λ c. omega arith)
+    (λ c. omega arith)
+    (λ c. product_fits _ _ (omega arith) (omega arith))
+    (λ c. half_product _ _ (omega arith) (omega arith))
+    (λ c. rising _ (omega arith))
+    (λ c. falling _ (omega arith)))

@@ -99,8 +99,7 @@ add_start : tie.Need-overflow_add-start invariant-loop decreases-loop
 unfolding longest board_size
 add_start c =
     let r = c.before.before.before.before.before.before in
-    let within : p r ≤ longest = omega (arith, taken r, (start r).requires.0) in
-    omega (arith, ends_within (at-loop r).loop-row.invariant.0 within (omega arith) c.row_heads-start.ensures)
+    omega (arith, ends_within (at-loop r).loop-row.invariant.0 (omega (arith, taken r, (start r).requires.0)) (omega (arith, (start r).requires.0)) c.row_heads-start.ensures)
 
 add_row : tie.Need-overflow_add-row invariant-loop decreases-loop
 unfolding longest

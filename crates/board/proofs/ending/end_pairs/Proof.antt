@@ -68,7 +68,7 @@ add-tried c = let r = c.before in omega (arith, (at-loop r).loop-p.invariant.few
 
 add-live : tie.Need-overflow_add-live invariant-loop decreases-loop
 unfolding longest
-add-live c = let r = c.before.before in omega (arith, (at-loop r).loop-p.invariant.few_live, few_live r, taken r, short r)
+add-live c = let r = c.before.before in omega (arith, (at-loop r).loop-p.invariant.few_live, few_live r, few_tried r, taken r, short r)
 
 add-p : tie.Need-overflow_add-p invariant-loop decreases-loop
 unfolding longest

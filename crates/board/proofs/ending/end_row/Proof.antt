@@ -80,7 +80,7 @@ unfolding board_size
 element-copy-out-if1 c = let r = c.before.before.before in omega (arith, on-board r, begins r, has r, c.loop-h-test.true)
 
 add-tried : tie.Need-overflow_add-tried invariant-loop decreases-loop
-add-tried c = search rules
+add-tried c = let r = c.before.before.before.before.before in omega (arith, c.loop-h.invariant.1.few, on-board r, has r, c.loop-h-test.true)
 
 holds-requires : tie.Need-holds-requires invariant-loop decreases-loop
 holds-requires c κs =
@@ -90,7 +90,10 @@ holds-requires c κs =
 
 cast-board : tie.Need-overflow_cast-board invariant-loop decreases-loop
 unfolding longest
-cast-board c = omega (arith, (start c.before.before.before.before.before.before.before).requires.0.short)
+cast-board c =
+    let r = c.before.before.before.before.before.before.before in
+    let range : InRange (length (word r)) (pair c.loop-h.h (p r)) = in_row r c.loop-h.h (omega (arith, has r, c.loop-h-test.true)) in
+    omega (arith, range.below, range.fits, (start r).requires.0.short)
 
 element-write-board : tie.Need-bounds-board-at-then-not-holds invariant-loop decreases-loop
 unfolding board_size
@@ -98,9 +101,6 @@ element-write-board c = let r = c.before.before.before.before.before.before.befo
 
 add-ended : tie.Need-overflow_add-ended invariant-loop decreases-loop
 add-ended c = search rules
-
-add-h : tie.Need-overflow_add-h invariant-loop decreases-loop
-add-h c = search rules
 
 loop-less : tie.Need-loop-h-smaller invariant-loop decreases-loop
 loop-less c = search rules
@@ -128,12 +128,13 @@ loop-again c =
 sub-live : tie.Need-overflow_sub-live invariant-loop decreases-loop
 sub-live c = search rules
 
-returns : tie.Need-returns invariant-loop decreases-loop
+-- where the loop has passed all heads of the row
+row_gone : ((c : tie.After-loop-h invariant-loop decreases-loop) → c.loop-h.h ≡ Periods.heads (length (word c.before.before)) (p c.before.before)) → tie.Need-returns invariant-loop decreases-loop
 unfolding row_open row_ended Periods.row
-returns c =
+row_gone passed c =
     let r = c.before.before in
+    let e : c.before.loop-h.h ≡ Periods.heads (length (word r)) (p r) = passed c in
     let g = c.before.loop-h.invariant.1 in
-    let e : c.before.loop-h.h ≡ Periods.heads (length (word r)) (p r) = omega (arith, has r) in
     let row : c.before.loop-h.board ≡ row_ended (word r) (p r) (board r) =
     g.gone ∙ ap (λ (k : ℕ). board_of (below (entry_added (word r)) (p r) k (board r))) e
     ∙ all_below (entry_added (word r)) (p r) (board r) (long r) (length (word r)) (out_of_range_kept (word r)) in
@@ -158,8 +159,8 @@ end_row_spec =
     cast-board
     element-write-board
     add-ended
-    add-h
+    (λ c. search rules)
     loop-less
     loop-again
     sub-live
-    returns)
+    (row_gone (λ c. omega (arith, has c.before.before))))
