@@ -3,9 +3,9 @@
 use Prim.Native.Nat.{ℕ, suc, ◌<◌, ◌≤◌, ◌-◌, ◌+◌}
 use mathlib.Core.Path.{◌≡◌, sym, ap, ◌∙◌}
 use mathlib.Core.Bool.{Bool, not, not-not}
-use mathlib.Core.List.{List}
+use mathlib.Core.List.{List, []}
 use native.Mathlib.Omega.{arith}
-use lib.ListN.{length}
+use lib.ListN.{length, get_or}
 use borrow.Author.Rules.{rules}
 use borrow.Author.Tests.{not-true, not-false}
 use Rattle.abelian.specs.Lists.{same}
@@ -149,7 +149,7 @@ returns-2 : tie.Need-returns-then-differs invariant-loop decreases-loop
 returns-2 c =
     let d = c.before in
     sym (block_unlike (w (t (i d))) (x (t (i d))) (suc (passed (i d)).blocks) (omega arith)
-    (next_whole (w (t (i d))) (x (t (i d))) (range (t (i d))) (at (i d)) (passed (i d)) (i d).loop-at-test.true) (not-true _ (sym (next-test d) ∙ c.if-differs.true)))
+    (next_whole (w (t (i d))) (x (t (i d))) (range (t (i d))) (at (i d)) (passed (i d)) (omega (arith, (i d).loop-at-test.true))) (not-true _ (sym (next-test d) ∙ c.if-differs.true)))
 
 add-at-2 : tie.Need-overflow_add-at-in-loop-at-2 invariant-loop decreases-loop
 add-at-2 c = omega (arith, whole (i c.before))
@@ -161,7 +161,7 @@ loop-again : tie.Need-loop-at-preserved invariant-loop decreases-loop
 loop-again c =
     let d = c.before in
     let e : vector (next d) ≡ vector (block (w (t (i d))) (x (t (i d))) 1) = same_equal _ _ (passes (like d) (not-false (like d) (sym (next-test d) ∙ c.if-differs.false))) in
-    next_passed (w (t (i d))) (x (t (i d))) (range (t (i d))) (at (i d)) (passed (i d)) (i d).loop-at-test.true
+    next_passed (w (t (i d))) (x (t (i d))) (range (t (i d))) (at (i d)) (passed (i d)) (omega (arith, (i d).loop-at-test.true))
     (ap vector (sym (next_block (w (t (i d))) (x (t (i d))) (range (t (i d))) (at (i d)) (passed (i d)))) ∙ e)
 
 -- no more block is whole: the tail is what is left
@@ -198,10 +198,11 @@ returns-3 c =
     let l = r.before.before in
     let b = l.before.before.before in
     let p = done l in
-    let left : length (w (u l)) - end l < (x (u l)).period = l.loop-at-test.false in
+    let left : length (w (u l)) - end l < (x (u l)).period = omega (arith, l.loop-at-test.false) in
     let blocks : whole_blocks (length (w (u l))) (x (u l)) ≡ p.blocks = all_passed_lem (w (u l)) (x (u l)) (range (u l)) (end l) p left in
+    let whole : r.before.row-4.result ≡ get_or (table (u l)) (length (w (u l))) [] = r.before.row-4.ensures in
     let tail : c.before.difference-2.result ≡ padded (vector (tail_of (w (u l)) (x (u l)))) =
-    counted_part (counted (u l)) (end l) (length (w (u l)) - end l) (rw (rest l).0 at r.before.row-4.ensures) r.row-5.ensures (omega (arith, rest l))
+    counted_part (counted (u l)) (end l) (length (w (u l)) - end l) (rw (rest l).0 at whole) r.row-5.ensures (omega (arith, rest l))
     c.before.difference-2.ensures
     ∙ ap (λ (v : List ℕ). padded (vector v)) (sym (tail_left (w (u l)) (x (u l)) (range (u l)) (end l) p left)) in
     ap not c.exceeds-2.ensures ∙ not-not _ ∙ none_above_rows (tail_of (w (u l)) (x (u l))) (block (w (u l)) (x (u l)) 1) tail (first b)
