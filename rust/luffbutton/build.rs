@@ -1,4 +1,4 @@
-//! Links the proved library, which `rt staticlib luffbutton` writes to target/staticlib in the repository's root. Where the archive is
+//! Links the proved library, which `bin/archive` writes to target/staticlib in the repository's root. Where the archive is
 //! missing it says so and ends the build; where it is older than a source of the library it warns.
 use std::path::Path;
 use std::time::SystemTime;
@@ -14,19 +14,19 @@ fn main() {
     println!("cargo:rerun-if-changed={}", crates.display());
     if !archive.is_file() {
         eprintln!(
-            "luffbutton: target/staticlib/libluffbutton.a is missing: run `rt staticlib luffbutton` in {}",
+            "luffbutton: target/staticlib/libluffbutton.a is missing: run `bin/archive` in {}",
             root.display()
         );
         std::process::exit(1);
     }
     if newest(&crates) > newest(&archive) {
-        println!("cargo:warning=libluffbutton.a is older than a source in crates: run `rt staticlib luffbutton`");
+        println!("cargo:warning=libluffbutton.a is older than a source in crates: run `bin/archive`");
     }
     println!("cargo:rustc-link-search=native={}", folder.display());
     println!("cargo:rustc-link-lib=static=luffbutton");
 }
 
-/// When the file, or anything in the folder, last changed.
+/// When the file, or anything in the folder, last changed; what `rt` keeps in folders named `out` aside.
 fn newest(path: &Path) -> SystemTime {
     let own = path
         .metadata()
@@ -34,6 +34,7 @@ fn newest(path: &Path) -> SystemTime {
         .expect("a file of the repository has a date");
     let inside = path.read_dir().into_iter().flatten().flatten();
     inside
+        .filter(|entry| entry.file_name() != "out")
         .map(|entry| newest(&entry.path()))
         .fold(own, Ord::max)
 }
