@@ -57,10 +57,10 @@ fn number_of_words(alphabet: Alphabet, n: Length) -> usize
 pub fn list_square_free(alphabet: Alphabet, length: Length, out: &mut [u32]) -> Wrote
     ensures { answered_wrote result out.new ≡ square_free_listing alphabet.0 length.0 out.old }
 {
-    if let Outcome::Refused(refusal) = check_sizes(Alphabet(alphabet.0), Length(length.0)) {
+    if let Outcome::Refused(refusal) = check_sizes(alphabet, length) {
         return Wrote::Refused(refusal);
     }
-    let needed = number_of_words(Alphabet(alphabet.0), Length(length.0));
+    let needed = number_of_words(alphabet, length);
     if needed > out.len() {
         return Wrote::Refused(Refusal::SliceTooShort(needed));
     }
@@ -72,7 +72,7 @@ pub fn list_square_free(alphabet: Alphabet, length: Length, out: &mut [u32]) -> 
 pub fn count_square_free(alphabet: Alphabet, length: Length) -> Needed
     ensures { answered_needed result ≡ square_free_count alphabet.0 length.0 }
 {
-    if let Outcome::Refused(refusal) = check_sizes(Alphabet(alphabet.0), Length(length.0)) {
+    if let Outcome::Refused(refusal) = check_sizes(alphabet, length) {
         return Needed::Refused(refusal);
     }
     Needed::Words(number_of_words(alphabet, length))

@@ -78,7 +78,7 @@ pub(crate) fn search(
         longer += 1;
         c += 1;
         if !ends_square(totals, next) {
-            to = search(Alphabet(k), Length(next), totals, extended, to, out);
+            to = search(alphabet, Length(next), totals, extended, to, out);
         }
     }
     to

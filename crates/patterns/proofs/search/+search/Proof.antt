@@ -35,11 +35,11 @@ abbrev claims : ℕ → search-lts.Claims
 claims t = (store-reads.Asked, store-reads.Learnt, ends-square-reads.Asked, ends-square-reads.Learnt, search-below t, search'.Post)
 
 abbrev invariant-loop : search-lts.invariant-loop-c
-invariant-loop totals₀ number at out₀ k last next to₀ weight₀ base longer₀ c₀ totals out to factor longer c =
-    Tried k last totals₀ number at out₀ next totals out to factor longer c
+invariant-loop alphabet totals₀ number at out₀ k last next to₀ weight₀ base longer₀ c₀ totals out to factor longer c =
+    Tried alphabet.0 last totals₀ number at out₀ next totals out to factor longer c
 
 abbrev decreases-loop : search-lts.decreases-loop-c
-decreases-loop totals₀ number at out₀ k last next to₀ weight₀ base longer₀ c₀ totals out to factor longer c = k - c
+decreases-loop alphabet totals₀ number at out₀ k last next to₀ weight₀ base longer₀ c₀ totals out to factor longer c = alphabet.0 - c
 
 module _ (t : ℕ) where
   add-store : search-lts.Need-overflow_add-number (claims t) (search-at t) search'.Post invariant-loop decreases-loop
