@@ -20,8 +20,7 @@ use words::{ROWS, WIDTH, check_word, count_prefixes};
 // The candidates of the longest word, of which no word has more.
 pub const CANDIDATES: usize = (LONGEST / 2) * (LONGEST / 2);
 
-// Writes all Abelian squares of the word, by half length and then by start. It stays a function by itself, so that a report's stack has its marks only while it runs.
-#[inline(never)]
+// Writes all Abelian squares of the word, by half length and then by start.
 pub fn list_squares(word: &[u8], out: &mut [u32]) -> Wrote
     ensures { answered_wrote result out.new ≡ square_listing word.now out.old }
 {
