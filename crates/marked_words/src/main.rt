@@ -25,6 +25,8 @@ mod calls;
 mod text;
 mod tracked;
 
+ghost use Rattle.std.specs.Prelude.{◌≤◌, length, IfOk};
+
 use calls::run_call;
 use std::io;
 use std::io::{BufWriter, Read, Write};
@@ -59,10 +61,28 @@ fn run_lines<W: Write>(to: &mut W, text: &[u8]) -> io::Result<()> {
     Ok(())
 }
 
+// How many bytes of the input are read at most.
+const LONGEST_INPUT: usize = 65536;
+
+// Reads input into the slice until that is full or the input ends, and returns the number of bytes.
+fn read_full<R: Read>(reader: &mut R, input: &mut [u8]) -> io::Result<usize>
+    ensures { IfOk result (λ n. n ≤ length input.new) }
+{
+    let mut at = 0;
+    while at < input.len() {
+        let more = reader.read(&mut input[at..])?;
+        if more == 0 {
+            return Ok(at);
+        }
+        at += more;
+    }
+    Ok(at)
+}
+
 fn main(rt: HostRuntime) -> io::Result<()> {
-    let mut text = Vec::new(rt.alloc());
-    rt.reader().read_to_end(&mut text)?;
+    let mut input = [0u8; LONGEST_INPUT];
+    let n = read_full(&mut rt.reader(), &mut input)?;
     let mut to = BufWriter::new(rt.alloc(), io::writer(&rt))?;
-    run_lines(&mut to, &text)?;
+    run_lines(&mut to, &input[..n])?;
     to.flush()
 }
