@@ -15,22 +15,18 @@ use borrow.Author.Rules.{rules}
 use Rattle.tracker.proofs.in_place.add.Statement.{statement}
 use Rattle.tracker.proofs.in_place.add.Tie as tie
 
--- the tracker that came
-abbrev came : tie.Start → Tracker
-came s = of_fields s.args.len.now s.args.bytes.now s.args.board.now s.args.live.now s.args.ended.now
-
 is-damaged-requires : tie.Need-is_damaged-requires
 is-damaged-requires c κs = search rules
 
 returns : tie.Need-returns-then-is_damaged
 returns c =
-    let old : Tracker = came c.before.before.before in
-    sym (adding-damaged old _ (damage_found old c.before.is_damaged.ensures c.if-is_damaged.true))
+    let old : Tracker = of_fields c.args.len.now c.args.bytes.now c.args.board.now c.args.live.now c.args.ended.now in
+    sym (adding-damaged old _ (damage_found old c.is_damaged.ensures c.if-is_damaged.true))
 
--- the tracker is not damaged
+-- the tracker that came is not damaged
 module _ (c : tie.Else-is_damaged) where
   abbrev old : Tracker
-  old = came c.before.before.before
+  old = of_fields c.args.len.now c.args.bytes.now c.args.board.now c.args.live.now c.args.ended.now
 
   sound : damaged old ≡ false
   sound = damage_found old c.before.is_damaged.ensures c.if-is_damaged.false

@@ -2,6 +2,8 @@
 use mathlib.Core.Path.{◌≡◌, sym}
 use mathlib.Core.Bool.{false}
 use Prim.Native.Nat.{ℕ}
+use native.Mathlib.Omega.{arith}
+use Rattle.abelian.specs.Words.{longest}
 use Rattle.abelian.specs.Trackers.{damaged}
 use Rattle.abelian.specs.declared.Tracker.{Tracker}
 use Rattle.tracker.specs.Fields.{of_fields}
@@ -28,7 +30,8 @@ sound : (c : tie.Else-is_damaged) (live ended : ℕ) → damaged (lent c.before.
 sound c live ended = damage_found (lent c.before.before live ended) c.before.is_damaged.ensures c.if-is_damaged.false
 
 count-open-requires : tie.Need-count_open-requires
-count-open-requires c κs = (undamaged (lent c.before.before 0 0) (sound c 0 0)).0
+unfolding longest
+count-open-requires c κs = omega (arith, (undamaged (lent c.before.before 0 0) (sound c 0 0)).0)
 
 returns-2 : tie.Need-returns
 returns-2 c live ended = let e = c.before in sym (count_accepted (lent e.before.before live ended) (sound e live ended) c.count_open.ensures)

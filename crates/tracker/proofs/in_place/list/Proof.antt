@@ -41,7 +41,8 @@ module _ (c : tie.Else-is_damaged) where
   short = (undamaged (old 0 0) (sound 0 0)).0
 
 count-open-requires : tie.Need-count_open-words-requires
-count-open-requires c κs = short c
+unfolding longest
+count-open-requires c κs = omega (arith, short c)
 
 returns-2 : tie.Need-returns-then-out-words
 returns-2 c live ended =
@@ -50,10 +51,11 @@ returns-2 c live ended =
     sym (listing_short (old e live ended) (out e) (sound e live ended) counted.count_open-words.ensures c.if-out-words.true)
 
 write-open-requires : tie.Need-write_open-requires
+unfolding longest
 write-open-requires c κs =
     let fits = c.before in
     let counted = fits.before in
-    (short counted.before, omega (arith, counted.count_open-words.ensures, fits.if-out-words.false))
+    (omega (arith, short counted.before), omega (arith, counted.count_open-words.ensures, fits.if-out-words.false))
 
 same_length : tie.Need-shape_of-out
 same_length c = search rules

@@ -32,6 +32,7 @@ reopen-requires : tie.Need-reopen-requires
 reopen-requires c κs = search rules
 
 count-open-requires : tie.Need-count_open-open-requires
+unfolding longest
 count-open-requires c κs = search rules
 
 -- the board that is left, and its live pairs
