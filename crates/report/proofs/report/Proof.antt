@@ -4,15 +4,20 @@ use mathlib.Core.Path.{◌≡◌, sym, ap, ◌∙◌}
 use mathlib.Core.Logic.{⊎_elim}
 use mathlib.Core.Option.{none}
 use mathlib.Core.List.{List}
-use Prim.Native.Nat.{ℕ, ◌≤◌}
+use Prim.Native.Nat.{ℕ, ◌≤◌, ◌<◌}
 use native.Mathlib.Omega.{arith}
 use lib.ListN.{length}
+use lib.Dec.{T}
 use borrow.Author.Rules.{rules}
-use Rattle.abelian.specs.Words.{longest}
+use Rattle.abelian.specs.Words.{longest, of_letters}
 use Rattle.abelian.specs.Refusals.{report_refusal}
 use Rattle.abelian.specs.Trackers.{board_size}
-use Rattle.abelian.specs.Answers.{writing}
-use Rattle.abelian.specs.Calls.{report_words}
+use Rattle.abelian.specs.Answers.{outcome_of, refusing, writing}
+use Rattle.abelian.specs.Output.{fill}
+use Rattle.abelian.specs.Calls.{report_words, reporting}
+use Rattle.abelian.specs.declared.Refusal.{Refusal}
+use Rattle.abelian.specs.declared.Refusal.TheVariants.{SliceTooShort}
+use Rattle.abelian.specs.declared.Outcome.TheVariants.{Accepted, Refused}
 use Rattle.words.proofs.Refusals.{accepted_none, refused_some}
 use Rattle.report.specs.Places.{report_places}
 use Rattle.report.proofs.Refusals.{report_refused, reported_letters, reported_length, report_short, report_written}
@@ -21,79 +26,51 @@ use Rattle.report.proofs.report.Statement.{statement}
 use Rattle.report.proofs.report.Lts.{then-out-lt-PLACES+else-out-needed, else-out-lt-PLACES}
 use Rattle.report.proofs.report.Tie as tie
 
--- what is known once the word is to be reported
-module _ (c : tie.In_default) where
-  abbrev w : List ℕ
-  w = c.args.word.now
+-- a word that `check_reported` accepts is to be reported: it is one that the parts take
+reported : (w : List ℕ) → outcome_of (report_refusal w 0 0) ≡ Accepted → report_refusal w 0 0 ≡ none
+reported w e = accepted_none (report_refusal w 0 0) e
 
-  abbrev out : List ℕ
-  out = c.args.out.now
+letters : (w : List ℕ) → outcome_of (report_refusal w 0 0) ≡ Accepted → T (of_letters w)
+letters w e = reported_letters w (reported w e)
 
-  reported : report_refusal w 0 0 ≡ none
-  reported = accepted_none (report_refusal w 0 0) (sym c.check_reported.ensures ∙ c.in_default.is)
+long : (w : List ℕ) → outcome_of (report_refusal w 0 0) ≡ Accepted → length w ≤ longest
+long w e = reported_length w (reported w e)
+
+-- one that it refuses is refused, and the slice stays as it came
+refused : (w out : List ℕ) (r : Refusal) → outcome_of (report_refusal w 0 0) ≡ Refused r → reporting w out ≡ refusing r out
+refused w out r e = report_refused w (refused_some (report_refusal w 0 0) r e) out
+
+-- a slice with fewer places than the report of an accepted word has words is too short
+short : (w out : List ℕ) → outcome_of (report_refusal w 0 0) ≡ Accepted → (needed : ℕ) → needed ≡ length (report_words w) → length out < needed
+    → refusing (SliceTooShort needed) out ≡ reporting w out
+short w out e needed told h = report_short w (reported w e) out needed told h
 
 -- past both tests the slice has places enough
-fits : (c : tie.Joined-out-lt-PLACES) → length (report_words (w c.before)) ≤ length (out c.before)
+fits : (c : tie.Joined-out-lt-PLACES) → length c.args.word.now ≤ longest → length (report_words c.args.word.now) ≤ length c.args.out.now
 unfolding report_places longest board_size
-fits c =
-    let told = c.before in
+fits c h =
     elim c.if-out-lt-PLACES.branch [
       | then-out-lt-PLACES+else-out-needed v ↦ omega (arith, v.words_needed-needed.ensures, v.if-out-needed.false)
-      | else-out-lt-PLACES v ↦ omega (arith, v.if-out-lt-PLACES.false, report_places_lem (w told) (reported_length (w told) (reported told)))
+      | else-out-lt-PLACES v ↦ omega (arith, v.if-out-lt-PLACES.false, report_places_lem c.args.word.now h)
     ]
 
-check-reported-requires : tie.Need-check_reported-requires
-check-reported-requires c κs = search rules
-
-enum-known-refusal : tie.Need-enum_known-refusal
-enum-known-refusal c = search rules
-
-returns : tie.Need-returns-in-Refused
-returns c =
-    let word = c.args.word.now in
-    let r = c.in-Refused.refusal in
-    sym
-    (report_refused word (refused_some (report_refusal word 0 0) r (sym c.check_reported.ensures ∙ c.in-Refused.is))
-    c.args.out.now)
-
-enum_told : tie.Need-enum_told-1
-enum_told c = search rules
-
-words-needed-requires : tie.Need-words_needed-needed-requires
-words-needed-requires c κs = let told = c.before in (reported_letters (w told) (reported told), reported_length (w told) (reported told))
-
-returns-2 : tie.Need-returns-then-out-needed
-returns-2 c =
-    let told = c.before.before.before in
-    let call = c.before.words_needed-needed in
-    report_short (w told) (reported told) (out told) call.result call.ensures c.if-out-needed.true
-
-write-parts-requires : tie.Need-write_parts-written-requires
-write-parts-requires c κs =
-    let told = c.before.before in
-    (reported_letters (w told) (reported told), (reported_length (w told) (reported told), fits c.before))
-
-same_length : tie.Need-shape_of-out
-same_length c = search rules
-
-returns-3 : tie.Need-returns
-returns-3 c =
-    let call = c.before.before.write_parts-written in
-    let joined = c.before.before.before.before in
-    let told = joined.before in
-    ap (λ (l : List ℕ). writing call.result 0 0 0 l) call.ensures.1
-    ∙ report_written (w told) (reported told) (out told) call.result call.ensures.0 (omega (arith, call.ensures.0, fits joined))
+-- and then the words stand in its first places
+written : (w out : List ℕ) → outcome_of (report_refusal w 0 0) ≡ Accepted → (n : ℕ) → n ≡ length (report_words w) → length (report_words w) ≤ length out
+    → writing n 0 0 0 (fill (report_words w) out) ≡ reporting w out
+written w out e n told h = report_written w (reported w e) out n told (omega (arith, told, h))
 
 pub report_spec : {M : Type 1} → statement M
 report_spec =
     tie.close
     (tie.spec
-    check-reported-requires
-    enum-known-refusal
-    returns
-    enum_told
-    words-needed-requires
-    returns-2
-    write-parts-requires
-    same_length
-    returns-3)
+    (λ c κs. search rules)
+    (λ c. search rules)
+    (λ c. sym (refused _ _ _ (sym c.check_reported.ensures ∙ c.in-Refused.is)))
+    (λ c. search rules)
+    (λ c κs. let e = sym c.check_reported.ensures ∙ c.in_default.is in (letters _ e, long _ e))
+    (λ c. short _ _ (sym c.check_reported.ensures ∙ c.in_default.is) _ c.before.words_needed-needed.ensures c.if-out-needed.true)
+    (λ c κs. let e = sym c.check_reported.ensures ∙ c.in_default.is in (letters _ e, (long _ e, fits c.before (long _ e))))
+    (λ c. search rules)
+    (λ c. let e = sym c.check_reported.ensures ∙ c.in_default.is in let call = c.write_parts-written in
+      ap (λ (l : List ℕ). writing call.result 0 0 0 l) call.ensures.1
+      ∙ written _ _ e call.result call.ensures.0 (fits c.before.before.before.before (long _ e))))
