@@ -1,5 +1,5 @@
 -- Bytes that are written piece by piece: each piece stands behind those before it.
-use mathlib.Core.Path.{◌≡◌, refl, sym, ap, ◌∙◌}
+use mathlib.Core.Path.{◌≡◌, refl, sym, ap, ap₂, ◌∙◌}
 use mathlib.Core.List.{List, [], ◌∷◌, ◌++◌, append-nil}
 use Prim.Native.Nat.{ℕ, suc, ◌+◌, ◌-◌, ◌≤◌, ◌<◌}
 use native.Mathlib.Numerals.{add-one}
@@ -10,7 +10,7 @@ use borrow.Rule.Slice.PartMut.{put_mid}
 use Rattle.abelian.specs.Lists.{each}
 use Rattle.abelian.specs.Output.{fill}
 use Rattle.abelian.proofs.Lists.{each_append}
-use Rattle.words.proofs.Lists.{length-fill, fill_more, fill_lent}
+use Rattle.words.proofs.Lists.{length-fill, take-fill, fill_more, fill_lent}
 use Rattle.cycles.specs.Text.{Written}
 
 -- nothing is written yet
@@ -36,6 +36,10 @@ module _ {bytes before text : List ℕ} {at : ℕ} (w : Written bytes before tex
   pub written_within : at ≤ length text
   unfolding fill
   written_within = omega (arith, w.number, ap length w.text, length-append bytes (drop (length bytes) before))
+
+  -- the first places hold them
+  pub written_front : take at text ≡ bytes
+  written_front = ap₂ (λ (k : ℕ) (l : List ℕ). take k l) w.number w.text ∙ take-fill bytes before
 
   -- more bytes have places behind them
   pub written_room : (more : List ℕ) → length (bytes ++ more) ≤ length before → at + length more ≤ length text

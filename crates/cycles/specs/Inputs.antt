@@ -1,9 +1,7 @@
 -- How many bytes of the input were read.
-use Rattle.std.specs.Prelude.{ℕ}
-use Rattle.cycles.specs.declared.Input.{Input}
-use Rattle.cycles.specs.declared.Input.TheVariants.{Bytes, Failed}
+use Rattle.std.specs.Prelude.{ℕ, Result, Ok, Err}
 
 -- the bytes that were read, 0 where a read failed
-abbrev pub bytes_read : Input → ℕ
-bytes_read (Bytes n) = n
-bytes_read Failed = 0
+abbrev pub bytes_read : {E : Type 0} → Result ℕ E → ℕ
+bytes_read (Ok n) = n
+bytes_read (Err e) = 0

@@ -15,6 +15,16 @@ const KIND: u32 = 268435456;
 // What one of the upper part counts; the lower part is below it.
 const UPPER: u32 = 16384;
 
+// Writes bytes.
+fn write_bytes(bytes: &[u8], text: &mut [u8]) -> usize
+    requires { length bytes.now ≤ length text.old }
+    ensures { Written bytes.now text.old text.new result }
+{
+    let n = bytes.len();
+    text[..n].copy_from_slice(bytes);
+    n
+}
+
 // Writes a number in decimal.
 fn write_decimal(n: usize, text: &mut [u8]) -> usize
     requires { length (decimal n) ≤ length text.old }
@@ -22,7 +32,7 @@ fn write_decimal(n: usize, text: &mut [u8]) -> usize
 {
     let mut digits = [0u8; 20];
     let count = io::decimal(n as u64, &mut digits);
-    bytes::copy(&digits[..count], text)
+    write_bytes(&digits[..count], text)
 }
 
 // Writes a number with a space before it.
@@ -53,7 +63,7 @@ fn write_line(name: &[u8], numbers: &[usize], text: &mut [u8]) -> usize
     requires { length (line name.now numbers.now) ≤ length text.old }
     ensures { Written (line name.now numbers.now) text.old text.new result }
 {
-    let from = bytes::copy(name, text);
+    let from = write_bytes(name, text);
     let end = from + write_numbers(numbers, &mut text[from..]);
     text[end] = b'\n';
     end + 1
@@ -114,9 +124,9 @@ fn write_cover(found: bool, text: &mut [u8]) -> usize
     ensures { Written (cover_line found) text.old text.new result }
 {
     if found {
-        bytes::copy(b"cover yes\n", text)
+        write_bytes(b"cover yes\n", text)
     } else {
-        bytes::copy(b"cover no\n", text)
+        write_bytes(b"cover no\n", text)
     }
 }
 
