@@ -1,11 +1,11 @@
--- Bytes that are read piece by piece: each piece stands behind those before it, and all are the first bytes that the reader had.
-use Rattle.std.proofs.Common.{◌≡◌, ℕ, ◌+◌, ◌-◌, ◌≤◌, List, ◌++◌, None, Some, IfSome, arith, length, take, sym, ap, ◌∙◌, subst, length-take, length-take-le, take_all, append-nil}
-use Rattle.std.specs.Io.KnownBytes.{Consumes, IsAtEnd}
+-- Bytes that are read piece by piece: each piece stands behind those before it, and all together are what the reader gave.
+use Rattle.std.proofs.Common.{◌≡◌, ℕ, ◌+◌, ◌-◌, ◌≤◌, List, ◌++◌, length, take, sym, ap, ◌∙◌, subst, length-take-le}
+use Rattle.std.specs.Io.KnownBytes.{Consumes}
 use Rattle.std.proofs.KnownBytes.{Consumes-trans}
 use Rattle.std.specs.declared.option.Option.{Option}
 use borrow.Rule.Slice.PartMut.{put_mid, post_of}
 use Rattle.std.proofs.lemmas.List.{take-append-le}
-use Rattle.std.proofs.Math.Seq.{take-append_seam, take-append-add}
+use Rattle.std.proofs.Math.Seq.{take-append-add}
 
 -- a read into the places behind the first `at` bytes has brought n more
 pub read_more : (a b c : Option (List ℕ)) (at n : ℕ) (input part : List ℕ) → at ≤ length input → n ≤ length part → Consumes a b (take at input)
