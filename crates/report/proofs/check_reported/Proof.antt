@@ -39,11 +39,11 @@ check_reported_spec =
     (λ c κs. search rules)
     (λ c. equal _ (sym c.check_word.ensures ∙ c.in_default.is) (omega (arith, c.if-word-ge2.true)) (sym c.all_equal.ensures ∙ c.if-all_equal.true))
     (λ c.
-      let w = c.args.word.now in
-      let word = accepted_none (word_refusal w false 0 0) (sym c.check_word.ensures ∙ c.in_default.is) in
-      ap outcome_of
-      (sym
-      (elim c.else-word-ge2.branch [
-        | else-word-ge2-via-then-word-ge2+else-all_equal v ↦ unequal_accepted w word (sym v.all_equal.ensures ∙ v.if-all_equal.false)
-        | else-word-ge2-via-else-word-ge2 v ↦ fewer_accepted w word (omega (arith, v.if-word-ge2.false))
-      ]))))
+    let w = c.args.word.now in
+    let word = accepted_none (word_refusal w false 0 0) (sym c.check_word.ensures ∙ c.in_default.is) in
+    ap outcome_of
+    (sym
+    (elim c.else-word-ge2.branch [
+      | else-word-ge2-via-then-word-ge2+else-all_equal v ↦ unequal_accepted w word (sym v.all_equal.ensures ∙ v.if-all_equal.false)
+      | else-word-ge2-via-else-word-ge2 v ↦ fewer_accepted w word (omega (arith, v.if-word-ge2.false))
+    ]))))

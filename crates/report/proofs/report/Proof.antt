@@ -72,5 +72,5 @@ report_spec =
     (λ c κs. let e = sym c.check_reported.ensures ∙ c.in_default.is in (letters _ e, (long _ e, fits c.before (long _ e))))
     (λ c. search rules)
     (λ c. let e = sym c.check_reported.ensures ∙ c.in_default.is in let call = c.write_parts-written in
-      ap (λ (l : List ℕ). writing call.result 0 0 0 l) call.ensures.1
-      ∙ written _ _ e call.result call.ensures.0 (fits c.before.before.before.before (long _ e))))
+    ap (λ (l : List ℕ). writing call.result 0 0 0 l) call.ensures.1
+    ∙ written _ _ e call.result call.ensures.0 (fits c.before.before.before.before (long _ e))))
