@@ -41,7 +41,9 @@ pub(crate) fn words_needed(word: &[u8]) -> usize
 }
 
 // Writes the report into a slice with places enough, and returns the number of its words: the head stands in the first place, and the
-// remaining part is lent to each lister in turn.
+// remaining part is lent to each lister in turn. It stays a function by itself: written out inside the report, it would have the skipping lister's board
+// on the stack while the report is counted.
+#[inline(never)]
 pub(crate) fn write_parts(word: &[u8], out: &mut [u32]) -> usize
     requires t { T (of_letters word.now) }
     requires word_len_bound { length word.now ≤ longest }
