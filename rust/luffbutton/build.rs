@@ -32,6 +32,12 @@ fn newest(path: &Path) -> SystemTime {
         .metadata()
         .and_then(|data| data.modified())
         .expect("a file of the repository has a date");
+    // A folder that got its `out` has a new date by that alone.
+    let own = if path.join("out").is_dir() {
+        SystemTime::UNIX_EPOCH
+    } else {
+        own
+    };
     let inside = path.read_dir().into_iter().flatten().flatten();
     inside
         .filter(|entry| entry.file_name() != "out")

@@ -2,9 +2,9 @@
 // refused.
 //
 // Proved: for every input, the bytes that `answer` hands back are what documents 01 and 02 say is printed for the input's word (`printed` and
-// `word_in` of specs/Lines.antt), and `run` writes them, all of them and nothing else, for an input of which it reads no more than the first
-// 242 bytes. No contract can say which bytes a call of the operating system reads or writes: that the bytes of standard input are those
-// that are read, and that all bytes of the answer arrive, is tried by tests/cycles.
+// `word_in` of specs/Lines.antt), and, where reading and writing succeed and the reader's bytes are known, `run` writes them, all of them and
+// nothing else, and reads no more than the first 242 bytes. No contract can say which bytes a call of the operating system reads or writes:
+// that the bytes of standard input are those that are read, and that all bytes of the answer arrive, is tried by tests/cycles.
 //
 // Where reading or writing fails the program says so on standard error and ends with status 1.
 #![tactic(auto)]
