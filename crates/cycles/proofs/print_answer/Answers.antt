@@ -1,5 +1,5 @@
 -- The array has places for every text, and what is handed on was written.
-use Rattle.std.proofs.Common.{ℕ, sym}
+use Rattle.std.proofs.Common.{ℕ, sym, arith}
 use Rattle.std.proofs.lemmas.List.{length-replicate}
 use native.Mathlib.Nat.{le_of_eq}
 use lib.Seq.{length-take-le}
@@ -18,10 +18,10 @@ unfolding longest_text report_places longest_line longest board_size
 answer-n-requires g c = le_of_eq (slice_bounds-answer-end g c)
 
 pub slice_bounds-text-end : goal.slice_bounds-text-end
-slice_bounds-text-end g c = written_within c.answer-n.ensures
+slice_bounds-text-end g c = omega (arith, written_within c.answer-n.ensures)
 
 pub slice_bounds-write_all-end : goal.slice_bounds-write_all-end
-slice_bounds-write_all-end g c = sym (length-take-le _ _ (written_within c.answer-n.ensures))
+slice_bounds-write_all-end g c = sym (length-take-le _ _ (omega (arith, written_within c.answer-n.ensures)))
 
 pub returns : goal.returns
 returns g c = rw (written_front c.answer-n.ensures) at c.write_all.ensures.bytes

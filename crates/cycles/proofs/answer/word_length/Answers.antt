@@ -21,7 +21,7 @@ empty_word [] h = refl
 empty_word (x ∷ xs) h = absurd (omega arith)
 
 pub returns-then-input-n-eq10-clause-input_value : goal.returns-then-input-n-eq10-clause-input_value
-returns-then-input-n-eq10-clause-input_value c = without-newline c.args.input.now c.if-input-n-eq10.true
+returns-then-input-n-eq10-clause-input_value c = without-newline c.args.input.now (omega (arith, c.if-input-n-eq10.true))
 
 pub returns-else-n-gt0-clause-input_value : goal.returns-else-n-gt0-clause-input_value
 returns-else-n-gt0-clause-input_value c =
