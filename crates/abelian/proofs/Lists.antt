@@ -10,7 +10,8 @@ use native.Mathlib.Omega.{arith}
 use lib.ListN.{length, length-append}
 use lib.Dec.{T, eqb, ltb, eqb→eq, eqb_refl}
 use borrow.Author.Tests.{eqb-true, eqb-false, ltb-true, ltb-false, ne_eqb}
-use Rattle.abelian.specs.Lists.{pick, one, up_from, largest, same, put, keep, all, each, first_passing, Ordered}
+use Rattle.abelian.specs.Lists.{nonzero, pick, one, up_from, largest, same, put, keep, all, each, first_passing, Ordered}
+use Rattle.std.specs.Prelude.{Some, None}
 use Rattle.abelian.proofs.Tests.{is_false, picked, both, left, right, decided, passes, fails}
 
 -- ---- equal lists of numbers
@@ -349,3 +350,15 @@ module _ {A B : Type 0} (R : A → A → Type 0) (S : B → B → Type 0) where
       (λ x y m n.
       let k : (b : A) × Memᴰ b xs × Memᴰ y (f b) = mem-each f xs n in
       h a k.0 (r.0 k.0 k.1) x y m k.2)
+
+-- ---- a number that says by 0 that there is none
+
+-- there is none: it is 0
+pub nonzero_none : (k : ℕ) → nonzero k ≡ None → k ≡ 0
+nonzero_none zero e = refl
+nonzero_none (suc k) e = let z : ◌≡◌ {A = ℕ} 0 1 = cc in absurd (omega arith)
+
+-- there is one: it is the number, and above 0
+pub nonzero_some : (k p : ℕ) → nonzero k ≡ Some p → (k ≡ p) × (1 ≤ p)
+nonzero_some zero p e = let z : ◌≡◌ {A = ℕ} 0 1 = cc in absurd (omega arith)
+nonzero_some (suc k) p e = let q : suc k ≡ p = cc in (q, omega (arith, q))

@@ -1,22 +1,13 @@
 -- Answers: document 01's numbers for each case of each answer, with the slice as it is afterwards.
-use Rattle.std.specs.Prelude.{ℕ, List, []}
-use Rattle.std.proofs.Math.Option.{Option, none, some}
+use Rattle.std.specs.Prelude.{ℕ, List, [], Option, Some, None, Result, Ok, Err}
+use Rattle.std.proofs.Math.Option as math
+use Rattle.std.proofs.Math.Option.{none, some}
 use Rattle.abelian.specs.Refusals.{number_of, value_of}
 use Rattle.abelian.specs.declared.Refusal.{Refusal}
 use Rattle.abelian.specs.declared.Verdict.{Verdict}
 use Rattle.abelian.specs.declared.Verdict.TheVariants as verdict
 use Rattle.abelian.specs.declared.Listed.{Listed}
-use Rattle.abelian.specs.declared.Listed.TheVariants as listed
 use Rattle.abelian.specs.declared.Scaled.{Scaled}
-use Rattle.abelian.specs.declared.Scaled.TheVariants as scaled
-use Rattle.abelian.specs.declared.Wrote.{Wrote}
-use Rattle.abelian.specs.declared.Wrote.TheVariants as wrote
-use Rattle.abelian.specs.declared.Needed.{Needed}
-use Rattle.abelian.specs.declared.Needed.TheVariants as needed
-use Rattle.abelian.specs.declared.Covered.{Covered}
-use Rattle.abelian.specs.declared.Covered.TheVariants as covered
-use Rattle.abelian.specs.declared.Outcome.{Outcome}
-use Rattle.abelian.specs.declared.Outcome.TheVariants as outcome
 
 -- The numbers of an answer. `written` is the number of words: of a list those that it has written, of a count those that the list has. `yes` is 1 where the judge says yes
 -- and where a cover is found. A number that a call's answer has no room for, or that is not named, is 0; number 0 is acceptance.
@@ -57,41 +48,45 @@ abbrev pub accepting : Answer
 accepting = deciding 0 0 0 0
 
 -- the refusal, if there is one, with the slice as it came, and else the accepted answer
-abbrev pub unless : Option Refusal → List ℕ → Answer → Answer
+abbrev pub unless : math.Option Refusal → List ℕ → Answer → Answer
 unless none out a = a
 unless (some r) out a = refusing r out
 
-abbrev pub answered_verdict : Verdict → Answer
-answered_verdict verdict.Yes = deciding 1 0 0 0
-answered_verdict (verdict.No k c) = deciding 0 k c 0
-answered_verdict (verdict.Refused r) = refusing r []
+-- what a call hands back: the refusal, if there is one, and else what it has found
+abbrev pub accepted_unless : {A : Type 0} → math.Option Refusal → A → Result A Refusal
+accepted_unless none found = Ok found
+accepted_unless (some r) found = Err r
 
-abbrev pub answered_listed : Listed → List ℕ → Answer
-answered_listed (listed.Written words tried) out = writing words tried 0 0 out
-answered_listed (listed.Refused r) out = refusing r out
+-- and of a call that has nothing more to say
+abbrev pub outcome_of : math.Option Refusal → Result Unit Refusal
+outcome_of refusal = accepted_unless refusal tt
 
-abbrev pub answered_scaled : Scaled → List ℕ → Answer
-answered_scaled (scaled.Written words s t) out = writing words 0 s t out
-answered_scaled (scaled.Refused r) out = refusing r out
+abbrev pub answered_verdict : Result Verdict Refusal → Answer
+answered_verdict (Ok verdict.Yes) = deciding 1 0 0 0
+answered_verdict (Ok (verdict.No k c)) = deciding 0 k c 0
+answered_verdict (Err r) = refusing r []
 
-abbrev pub answered_wrote : Wrote → List ℕ → Answer
-answered_wrote (wrote.Words words) out = writing words 0 0 0 out
-answered_wrote (wrote.Refused r) out = refusing r out
+abbrev pub answered_listed : Result Listed Refusal → List ℕ → Answer
+answered_listed (Ok l) out = writing l.words l.trials 0 0 out
+answered_listed (Err r) out = refusing r out
 
-abbrev pub answered_needed : Needed → Answer
-answered_needed (needed.Words words) = counting words
-answered_needed (needed.Refused r) = refusing r []
+abbrev pub answered_scaled : Result Scaled Refusal → List ℕ → Answer
+answered_scaled (Ok l) out = writing l.words 0 l.s l.t out
+answered_scaled (Err r) out = refusing r out
 
-abbrev pub answered_covered : Covered → Answer
-answered_covered (covered.Length m) = deciding 1 0 0 m
-answered_covered covered.Nothing = deciding 0 0 0 0
-answered_covered (covered.Refused r) = refusing r []
+abbrev pub answered_wrote : Result ℕ Refusal → List ℕ → Answer
+answered_wrote (Ok words) out = writing words 0 0 0 out
+answered_wrote (Err r) out = refusing r out
 
--- the refusal, if there is one, and else acceptance, as a call that has nothing more to say answers
-abbrev pub outcome_of : Option Refusal → Outcome
-outcome_of none = outcome.Accepted
-outcome_of (some r) = outcome.Refused r
+abbrev pub answered_needed : Result ℕ Refusal → Answer
+answered_needed (Ok words) = counting words
+answered_needed (Err r) = refusing r []
 
-abbrev pub answered_outcome : Outcome → Answer
-answered_outcome outcome.Accepted = accepting
-answered_outcome (outcome.Refused r) = refusing r []
+abbrev pub answered_covered : Result (Option ℕ) Refusal → Answer
+answered_covered (Ok (Some m)) = deciding 1 0 0 m
+answered_covered (Ok None) = deciding 0 0 0 0
+answered_covered (Err r) = refusing r []
+
+abbrev pub answered_outcome : Result Unit Refusal → Answer
+answered_outcome (Ok _) = accepting
+answered_outcome (Err r) = refusing r []

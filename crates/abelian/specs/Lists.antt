@@ -1,5 +1,5 @@
 -- The few functions on lists and tests that the definitions are made of.
-use Rattle.std.specs.Prelude.{ℕ, zero, suc, ◌+◌, max, Bool, true, false, ◌&&◌, eqb}
+use Rattle.std.specs.Prelude.{ℕ, zero, suc, ◌+◌, max, Bool, true, false, ◌&&◌, eqb, Option, Some, None}
 use mathlib.Core.List.{List, [], ◌∷◌, ◌++◌, Memᴰ}
 
 -- the first of two where the test passes, and the second where it fails
@@ -11,6 +11,11 @@ pick false a b = b
 abbrev pub one : Bool → ℕ
 one true = 1
 one false = 0
+
+-- a number that says by 0 that there is none
+abbrev pub nonzero : ℕ → Option ℕ
+nonzero zero = None
+nonzero (suc k) = Some (suc k)
 
 -- the n numbers from a on: a, a + 1, ..
 abbrev pub up_from : ℕ → ℕ → List ℕ

@@ -1,10 +1,27 @@
 -- Output words: how a list is written to a lent slice of 32-bit words.
-use Rattle.std.specs.Prelude.{ℕ, ◌+◌, ◌*◌, ◌/◌, ◌^◌, List, ◌++◌, length, drop}
+use Rattle.std.specs.Prelude.{ℕ, ◌+◌, ◌*◌, ◌/◌, ◌^◌, ◌≡◌, ◌≢◌, List, ◌++◌, length, drop, Result, MatchResult}
 use Rattle.abelian.specs.Periods.{Pair}
+use Rattle.abelian.specs.declared.Kind.{Kind}
+use Rattle.abelian.specs.declared.Kind.TheVariants as kind
 
 -- kind × 2^28 + upper × 2^14 + lower
 unfoldable pub output_word : ℕ → ℕ → ℕ → ℕ
 output_word kind upper lower = kind * 2 ^ 28 + upper * 2 ^ 14 + lower
+
+-- the number of a kind: document 01's table, and document 02's
+abbrev pub kind_number : Kind → ℕ
+kind_number kind.Period = 1
+kind_number kind.Square = 2
+kind_number kind.Full = 3
+kind_number kind.Run = 5
+kind_number kind.Hands = 6
+kind_number kind.Window = 7
+kind_number kind.Report = 8
+kind_number kind.Pattern = 9
+
+-- the kind that has the number, and an error where no kind has it
+abbrev pub OfNumber : ℕ → Result Kind Unit → Type 0
+OfNumber number found = MatchResult found (λ kind. kind_number kind ≡ number) (λ _. (kind : Kind) → kind_number kind ≢ number)
 
 -- "1 period": p above, h below.
 unfoldable pub period_word : Pair → ℕ

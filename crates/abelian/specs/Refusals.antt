@@ -105,10 +105,10 @@ square_free_refusal k n needed places = first_or_too_short (square_free_conditio
 
 -- "On a tracker: 6, 2, 4, 5, 3", of a call that meets these conditions or not, and needs so many words of a slice of so many places.
 unfoldable pub tracker_refusal : Bool → Bool → Bool → Bool → ℕ → ℕ → Option Refusal
-tracker_refusal damaged not_aLetter full empty needed places =
+tracker_refusal damaged not_a_letter full empty needed places =
     first_or_too_short
     (condition damaged TrackerDamaged
-    ∷ condition not_aLetter (NotALetter 1)
+    ∷ condition not_a_letter (NotALetter 1)
     ∷ condition full TrackerFull
     ∷ condition empty TrackerEmpty
     ∷ [])

@@ -2,8 +2,10 @@
 // and value. What each of them means is said in specs/, one file a subject; the crates above do the work.
 #![tactic(auto)]
 
-ghost use Rattle.std.specs.Prelude.{◌≡◌};
+ghost use Rattle.std.specs.Prelude.{◌≡◌, ◌*◌, ◌^◌, ◌≤◌};
+ghost use Rattle.abelian.specs.Words.{longest};
 ghost use Rattle.abelian.specs.Refusals.{number_of, value_of};
+ghost use Rattle.abelian.specs.Output.{kind_number, OfNumber, output_word};
 
 // How many letters there are: the one place of the code that names the number.
 pub const LETTERS: usize = 26;
@@ -30,7 +32,7 @@ pub const BOARD: usize = 14520;
 #[derive(Clone, Copy)]
 pub struct Head(pub usize);
 
-// The length of a block.
+// The length of a block. C hands it over, so that any number may come in it, and it has no invariant; nor has a head.
 #[repr(C)]
 #[derive(Clone, Copy)]
 pub struct Period(pub usize);
@@ -46,7 +48,7 @@ pub struct Alphabet(pub usize);
 pub struct Length(pub usize);
 
 // Why a call was refused, in the order of the numbers that documents 01 and 02 give. A case that has a value holds it.
-#[derive(Clone, Copy)]
+#[derive(Clone, Copy, PartialEq, Eq)]
 pub enum Refusal {
     // 1: a word above 240 letters.
     TooLong,
@@ -74,103 +76,126 @@ pub enum Refusal {
     SquareFreeLength,
 }
 
-// A refusal's number.
-pub fn number(refusal: Refusal) -> usize
-    ensures { result ≡ number_of refusal }
-{
-    match refusal {
-        Refusal::TooLong => 1,
-        Refusal::NotALetter(_) => 2,
-        Refusal::SliceTooShort(_) => 3,
-        Refusal::TrackerFull => 4,
-        Refusal::TrackerEmpty => 5,
-        Refusal::TrackerDamaged => 6,
-        Refusal::PairOutOfRange => 7,
-        Refusal::PatternEmpty => 8,
-        Refusal::RecordTooLong => 9,
-        Refusal::OneLetter => 10,
-        Refusal::SquareFreeAlphabet => 11,
-        Refusal::SquareFreeLength => 12,
+impl Refusal {
+    // A refusal's number. The cases are listed, since one that holds a value has no `as`.
+    pub fn number(self) -> usize
+        ensures { result ≡ number_of self }
+    {
+        match self {
+            Refusal::TooLong => 1,
+            Refusal::NotALetter(_) => 2,
+            Refusal::SliceTooShort(_) => 3,
+            Refusal::TrackerFull => 4,
+            Refusal::TrackerEmpty => 5,
+            Refusal::TrackerDamaged => 6,
+            Refusal::PairOutOfRange => 7,
+            Refusal::PatternEmpty => 8,
+            Refusal::RecordTooLong => 9,
+            Refusal::OneLetter => 10,
+            Refusal::SquareFreeAlphabet => 11,
+            Refusal::SquareFreeLength => 12,
+        }
+    }
+
+    // A refusal's value: a position, the words needed, or 0.
+    pub fn value(self) -> usize
+        ensures { result ≡ value_of self }
+    {
+        match self {
+            Refusal::NotALetter(position) => position,
+            Refusal::SliceTooShort(needed) => needed,
+            _ => 0,
+        }
     }
 }
 
-// A refusal's value: a position, the words needed, or 0.
-pub fn value(refusal: Refusal) -> usize
-    ensures { result ≡ value_of refusal }
-{
-    match refusal {
-        Refusal::NotALetter(position) => position,
-        Refusal::SliceTooShort(needed) => needed,
-        Refusal::TooLong => 0,
-        Refusal::TrackerFull => 0,
-        Refusal::TrackerEmpty => 0,
-        Refusal::TrackerDamaged => 0,
-        Refusal::PairOutOfRange => 0,
-        Refusal::PatternEmpty => 0,
-        Refusal::RecordTooLong => 0,
-        Refusal::OneLetter => 0,
-        Refusal::SquareFreeAlphabet => 0,
-        Refusal::SquareFreeLength => 0,
-    }
-}
-
-// What the judge answers.
-#[derive(Clone, Copy)]
+// What the judge says of a pair that it accepts. No `Option` of a failure: its `None` would have to be read as yes.
+#[derive(Clone, Copy, PartialEq, Eq)]
 pub enum Verdict {
     // The pair is an Abelian period.
     Yes,
     // It is none: the first block that breaks the rule, 0 for the head, and in it the first letter's byte.
     No { block: usize, letter: u8 },
-    Refused(Refusal),
 }
 
-// What a lister of periods answers: the words written, and the pairs tried.
-#[derive(Clone, Copy)]
-pub enum Listed {
-    Written { words: usize, trials: usize },
-    Refused(Refusal),
+// What a lister of periods has done: the words written, and the pairs tried.
+#[derive(Clone, Copy, PartialEq, Eq)]
+pub struct Listed {
+    pub words: usize,
+    pub trials: usize,
 }
 
-// What the scaled path of full periods answers: the words written, and the numbers s and T of document 01.
-#[derive(Clone, Copy)]
-pub enum Scaled {
-    Written { words: usize, s: usize, t: usize },
-    Refused(Refusal),
+// What the scaled path of full periods has done: the words written, and the numbers s and T of document 01.
+#[derive(Clone, Copy, PartialEq, Eq)]
+pub struct Scaled {
+    pub words: usize,
+    pub s: usize,
+    pub t: usize,
 }
 
-// What any other list call answers: the words written.
-#[derive(Clone, Copy)]
-pub enum Wrote {
-    Words(usize),
-    Refused(Refusal),
+// The kinds of output words, each by its number.
+#[derive(Clone, Copy, PartialEq, Eq)]
+pub enum Kind {
+    Period = 1,
+    Square = 2,
+    Full = 3,
+    Run = 5,
+    Hands = 6,
+    Window = 7,
+    Report = 8,
+    Pattern = 9,
 }
 
-// What a count answers: how many words its list has, and so how many places a slice needs.
-#[derive(Clone, Copy)]
-pub enum Needed {
-    Words(usize),
-    Refused(Refusal),
+// What one of the upper part counts; the lower part is below it.
+pub const UPPER: u32 = 16384;
+
+// What one of an output word's kind counts.
+pub const KIND: u32 = 268435456;
+
+impl Kind {
+    // The output word of the kind whose other parts are 0.
+    pub fn word(self) -> u32
+        ensures { result ≡ kind_number self * 2 ^ 28 }
+    {
+        (self as u32) * KIND
+    }
 }
 
-// What the search for a cover answers: the smallest cover length, or that there is no cover.
-#[derive(Clone, Copy)]
-pub enum Covered {
-    Length(usize),
-    Nothing,
-    Refused(Refusal),
+// The kind that has the number, or an error where none has it. The numbers are listed, since std derives no such conversion.
+impl TryFrom<u32> for Kind {
+    type Error = ();
+
+    ghost try_from_gives = { OfNumber };
+
+    fn try_from(number: u32) -> Result<Kind, ()> {
+        match number {
+            1 => Ok(Kind::Period),
+            2 => Ok(Kind::Square),
+            3 => Ok(Kind::Full),
+            5 => Ok(Kind::Run),
+            6 => Ok(Kind::Hands),
+            7 => Ok(Kind::Window),
+            8 => Ok(Kind::Report),
+            9 => Ok(Kind::Pattern),
+            _ => Err(()),
+        }
+    }
 }
 
-// What a call answers that writes no list and finds nothing.
-#[derive(Clone, Copy)]
-pub enum Outcome {
-    Accepted,
-    Refused(Refusal),
+// An output word by its kind and its two parts.
+pub fn output_word(kind: Kind, upper: usize, lower: usize) -> u32
+    requires upper_le_longest { upper ≤ longest }
+    requires lower_le_longest { lower ≤ longest }
+    ensures { result ≡ output_word (kind_number kind) upper lower }
+{
+    kind.word() + (upper as u32) * UPPER + lower as u32
 }
 
 // A word that grows and shrinks by letters: its length, its letters, a board with an entry for each pair in range for 240, in pair
 // order, and two totals: live, the number of pairs in range for the length whose entry is 0, and ended, the number whose entry isn't. In a
 // tracker that calls from a fresh one have made, the bytes beyond the length are 0 and each entry is its pair's ended length. Each accepted
-// add, take-back and clear sets both totals; no answer depends on them, and a tracker that no calls have made may hold anything there.
+// add, take-back and clear sets both totals; no answer depends on them, and a tracker that no calls have made may hold anything there. Lengths
+// and entries are numbers, 0 for a pair that has not ended, and no `Vec` and no `Option`: memory is fixed, and C hands over the fields.
 #[derive(Drop)]
 pub struct Tracker {
     pub len: usize,

@@ -7,3 +7,6 @@ pub mod Pairwise
 pub mod Padded
 pub mod Prefixes
 pub mod OneMore
+pub mod Equal
+pub mod Outside
+pub mod Filled

@@ -12,14 +12,13 @@ use borrow.Author.Tests.{lt-ltb, le-ltb}
 use Rattle.abelian.specs.Words.{longest, of_letters}
 use Rattle.abelian.specs.Refusals.{Condition, first_holding, too_few_places, first_or_too_short, word_refusal}
 use Rattle.abelian.specs.Output.{fill}
-use Rattle.abelian.specs.Answers.{refusing, writing, counting, outcome_of}
+use Rattle.abelian.specs.Answers.{refusing, writing, counting, accepted_unless}
 use Rattle.abelian.specs.Calls.{listing_unless, count_unless, listing, count_words}
 use Rattle.abelian.specs.declared.Refusal.{Refusal}
 use Rattle.abelian.specs.declared.Refusal.TheVariants.{SliceTooShort}
-use Rattle.abelian.specs.declared.Outcome.{Outcome}
-use Rattle.abelian.specs.declared.Outcome.TheVariants.{Accepted, Refused}
+use Rattle.std.specs.Prelude.{Result, Ok, Err}
 use Rattle.abelian.proofs.Refusals.{holding_first, holding_behind}
-use Rattle.words.proofs.Refusals.{accepted_none, refused_some, accepted_letters, accepted_length, refused_anyway, accepted_short, accepted_fits}
+use Rattle.words.proofs.Refusals.{accepted_none, accepted_given, refused_some, accepted_letters, accepted_length, refused_anyway, accepted_short, accepted_fits}
 
 module _ (w out ws : List ℕ) (trials s t : ℕ) where
   -- a word that is refused by itself: the slice is as it came
@@ -46,15 +45,24 @@ module _ (w out ws : List ℕ) (trials s t : ℕ) where
     counted_written needed e h = ap (λ (k : ℕ). writing k trials s t (fill ws out)) e ∙ sym (listing_written (omega (arith, e)))
 
 -- by what `check_word` has answered
-module _ (w : List ℕ) {o : Outcome} (checked : o ≡ outcome_of (word_refusal w false 0 0)) where
+module _ (w : List ℕ) {o : Result (List ℕ) Refusal} (checked : o ≡ accepted_unless (word_refusal w false 0 0) w) where
   -- the word is refused: so is every count on it
-  pub refused_count : (ws : List ℕ) {r : Refusal} → o ≡ Refused r → refusing r [] ≡ count_words w ws
+  pub refused_count : (ws : List ℕ) {r : Refusal} → o ≡ Err r → refusing r [] ≡ count_words w ws
   unfolding count_words
-  refused_count ws {r} e = rw (refused_some (word_refusal w false 0 0) r (sym checked ∙ e))
+  refused_count ws {r} e = rw (refused_some (word_refusal w false 0 0) r w (sym checked ∙ e))
 
-  module _ (e : o ≡ Accepted) where
-    accepted : word_refusal w false 0 0 ≡ none
-    accepted = accepted_none (word_refusal w false 0 0) (sym checked ∙ e)
+  -- and every list
+  pub refused_listing : (out ws : List ℕ) (trials s t : ℕ) {r : Refusal} → o ≡ Err r → refusing r out ≡ listing w out ws trials s t
+  refused_listing out ws trials s t {r} e = sym (listing_refused w out ws trials s t (refused_some (word_refusal w false 0 0) r w (sym checked ∙ e)))
+
+  module _ {given : List ℕ} (e : o ≡ Ok given) where
+    -- the word that is handed back is the word
+    pub given_word : given ≡ w
+    given_word = sym (accepted_given (word_refusal w false 0 0) w (sym checked ∙ e))
+
+    -- it has no refusal by itself
+    pub accepted : word_refusal w false 0 0 ≡ none
+    accepted = accepted_none (word_refusal w false 0 0) w (sym checked ∙ e)
 
     -- the word is accepted: it may be taken
     pub accepted_word : T (of_letters w) × (length w ≤ longest)

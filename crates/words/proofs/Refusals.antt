@@ -13,22 +13,28 @@ use Rattle.abelian.proofs.Tests.{passes}
 use Rattle.abelian.proofs.Refusals.{none_holds, holding_first}
 use Rattle.abelian.specs.Words.{alphabet_size, longest, first_outside, of_letters}
 use Rattle.abelian.specs.Refusals.{condition, first_holding, above_longest, byte_outside, too_few_places, word_refusal}
-use Rattle.abelian.specs.Answers.{outcome_of}
+use Rattle.std.specs.Prelude.{Ok, Err}
+use Rattle.abelian.specs.Answers.{accepted_unless}
 use Rattle.abelian.specs.declared.Refusal.{Refusal}
 use Rattle.abelian.specs.declared.Refusal.TheVariants.{TooLong, NotALetter, SliceTooShort, PairOutOfRange}
-use Rattle.abelian.specs.declared.Outcome.TheVariants.{Accepted, Refused}
 
--- ---- an outcome
+-- ---- what a call hands back
 
--- what is accepted has no refusal
-pub accepted_none : (o : Option Refusal) → outcome_of o ≡ Accepted → o ≡ none
-accepted_none none e = refl
-accepted_none (some r) e = let z : ◌≡◌ {A = ℕ} 0 1 = cc in absurd (omega arith)
+module _ {A : Type 0} where
+  -- what is accepted has no refusal
+  pub accepted_none : (o : Option Refusal) (found : A) {given : A} → accepted_unless o found ≡ Ok given → o ≡ none
+  accepted_none none found e = refl
+  accepted_none (some r) found e = let z : ◌≡◌ {A = ℕ} 0 1 = cc in absurd (omega arith)
 
--- what is refused has the refusal that is answered
-pub refused_some : (o : Option Refusal) (r : Refusal) → outcome_of o ≡ Refused r → o ≡ some r
-refused_some none r e = let z : ◌≡◌ {A = ℕ} 0 1 = cc in absurd (omega arith)
-refused_some (some q) r e = cc
+  -- and hands back what was found
+  pub accepted_given : (o : Option Refusal) (found : A) {given : A} → accepted_unless o found ≡ Ok given → found ≡ given
+  accepted_given none found e = cc
+  accepted_given (some r) found e = let z : ◌≡◌ {A = ℕ} 0 1 = cc in absurd (omega arith)
+
+  -- what is refused has the refusal that is answered
+  pub refused_some : (o : Option Refusal) (r : Refusal) (found : A) → accepted_unless o found ≡ Err r → o ≡ some r
+  refused_some none r found e = let z : ◌≡◌ {A = ℕ} 0 1 = cc in absurd (omega arith)
+  refused_some (some q) r found e = cc
 
 -- ---- the refusal of each word
 

@@ -15,6 +15,11 @@ padded v = v ++ replicate (width - alphabet_size) 0
 unfoldable pub prefix_counts : List ℕ → List (List ℕ)
 prefix_counts w = map (λ (i : ℕ). padded (vector (take i w))) (up_from 0 (suc longest))
 
+-- An accepted word: document 01's letters alone, and not more than the longest word has.
+pub record IsWord (w : List ℕ) : Type 0 where
+  pub all : T (of_letters w)
+  pub short : length w ≤ longest
+
 -- An accepted word, with the table of its prefix counts.
 pub record Counted (w : List ℕ) (table : List (List ℕ)) : Type 0 where
   pub all : T (of_letters w)

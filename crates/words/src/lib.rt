@@ -1,17 +1,19 @@
-// Words: the check of a word, the counts of its letters, and the table of the counts of its prefixes. A word, and any part of one, is
-// a slice of bytes.
+// Words: the check of a word, the counts of its letters, and its prefixes with their counts. What a call is handed is a slice of bytes; a `Word` is one that may
+// be taken, and a `CountedWord` one whose table of prefix counts has been filled.
 #![tactic(auto)]
 
 pub mod parts;
 
-ghost use Rattle.std.specs.Prelude.{◌≡◌, false, suc, ◌≤◌, T, length};
+ghost use Rattle.std.specs.Prelude.{◌≡◌, List, ℕ, [], false, suc, ◌-◌, ◌≤◌, T, length, take, drop, get_or};
+ghost use Rattle.abelian.specs.Lists.{nonzero};
 ghost use Rattle.abelian.specs.Words.{alphabet_size, longest, is_letter, first_outside, of_letters, all_equal, vector};
 ghost use Rattle.abelian.specs.Refusals.{word_refusal};
-ghost use Rattle.abelian.specs.Answers.{outcome_of};
-ghost use Rattle.words.specs.Prefixes.{prefix_counts};
+ghost use Rattle.abelian.specs.Answers.{accepted_unless};
+ghost use Rattle.words.specs.Prefixes.{IsWord, Counted, prefix_counts};
 
-use abelian::{FIRST_LETTER, LETTERS, LONGEST, Outcome, Refusal};
-use parts::count_more;
+use abelian::{FIRST_LETTER, LETTERS, LONGEST, Refusal};
+use parts::{count_more, row};
+use std::marker::Model;
 
 // The rows of the table of prefix counts: one for each length of a prefix, 0 to the longest word.
 pub const ROWS: usize = LONGEST + 1;
@@ -19,6 +21,123 @@ pub const ROWS: usize = LONGEST + 1;
 // The places of a row: a count for each letter, and zeros behind them that make it two registers of 16 bytes, so that a loop over a row leaves
 // no rest.
 pub const WIDTH: usize = 32;
+
+// A word that may be taken: letters alone, and not more than the longest word has. In contracts it is the list of its letters.
+#[derive(Drop)]
+pub struct Word<'a> {
+    bytes: &'a [u8],
+}
+
+impl<'a> Model for Word<'a> {
+    ghost Value = { List ℕ };
+
+    ghost view = { λ word. word.bytes.now };
+
+    ghost invariant = { λ word. IsWord word.bytes.now };
+}
+
+impl<'a> Word<'a> {
+    // The word of these letters.
+    pub fn new(letters: &'a [u8]) -> Word<'a>
+        requires { IsWord letters.now }
+        ensures { result ≡ letters.now }
+    {
+        Word { bytes: letters }
+    }
+
+    // Its letters.
+    pub fn letters(&self) -> &'a [u8]
+        ensures value { result.now ≡ self.now }
+        ensures word { IsWord self.now }
+    {
+        self.bytes
+    }
+
+    // How many letters it has.
+    pub fn len(&self) -> usize
+        ensures value { result ≡ length self.now }
+        ensures word { IsWord self.now }
+    {
+        let letters = self.letters();
+        letters.len()
+    }
+
+    // The part of it from one position to another.
+    pub fn part(&self, from: usize, to: usize) -> Word<'a>
+        requires order { from ≤ to }
+        requires in_bounds { to ≤ length self.now }
+        ensures { result ≡ take (to - from) (drop from self.now) }
+    {
+        let letters = self.letters();
+        Word {
+            bytes: &letters[from..to],
+        }
+    }
+}
+
+// A word with the table of its prefix counts, which is lent. In contracts it is the word. It has its letters itself and no `Word`, which would be one reference more to read
+// through in the loops over rows.
+#[derive(Drop)]
+pub struct CountedWord<'a> {
+    word: &'a [u8],
+    rows: &'a [[u8; WIDTH]; ROWS],
+}
+
+impl<'a> Model for CountedWord<'a> {
+    ghost Value = { List ℕ };
+
+    ghost view = { λ counted. counted.word.now };
+
+    ghost invariant = { λ counted. Counted counted.word.now counted.rows.now };
+}
+
+impl<'a> CountedWord<'a> {
+    // The word with its table, which `count_prefixes` has filled.
+    pub fn new(word: &'a Word, rows: &'a [[u8; WIDTH]; ROWS]) -> CountedWord<'a>
+        requires { rows.now ≡ prefix_counts word.now }
+        ensures { result ≡ word.now }
+    {
+        CountedWord {
+            word: word.letters(),
+            rows,
+        }
+    }
+
+    // The word's letters.
+    pub fn letters(&self) -> &'a [u8]
+        ensures value { result.now ≡ self.now }
+        ensures counted { Counted self.now (prefix_counts self.now) }
+    {
+        self.word
+    }
+
+    // How many letters the word has.
+    pub fn len(&self) -> usize
+        ensures value { result ≡ length self.now }
+        ensures counted { Counted self.now (prefix_counts self.now) }
+    {
+        self.letters().len()
+    }
+
+    // The same word by value: a loop that stores elsewhere goes by it, so that it need not read anew where the table lies. `clone` may fail in Rattle, and a
+    // type with a model and a lifetime is not `Copy`.
+    pub fn copied(&self) -> CountedWord<'a>
+        ensures { result ≡ self.now }
+    {
+        CountedWord {
+            word: self.letters(),
+            rows: self.rows,
+        }
+    }
+
+    // The row of the table for the first `at` letters.
+    pub fn row(&self, at: usize) -> [u8; WIDTH]
+        requires { at ≤ longest }
+        ensures { result ≡ get_or (prefix_counts self.now) at [] }
+    {
+        row(self.rows, at)
+    }
+}
 
 // Whether the byte is a letter.
 pub fn is_letter(byte: u8) -> bool
@@ -33,10 +152,8 @@ pub fn all_letters(stretch: &[u8]) -> bool
     ensures { result ≡ of_letters stretch.now }
 {
     let mut all = true;
-    let mut i = 0;
-    while i < stretch.len() {
-        all = all & is_letter(stretch[i]);
-        i += 1;
+    for byte in stretch {
+        all = all & is_letter(*byte);
     }
     all
 }
@@ -45,58 +162,50 @@ pub fn all_letters(stretch: &[u8]) -> bool
 pub fn all_equal(word: &[u8]) -> bool
     ensures { result ≡ all_equal word.now }
 {
-    let mut i = 0;
-    while i < word.len() {
-        if word[i] != word[0] {
+    for letter in word {
+        if *letter != word[0] {
             return false;
         }
-        i += 1;
     }
     true
 }
 
-// The first position, counted from 1, that holds no letter, or 0 where there is none. The bytes may be a word or a record.
-pub fn first_outside(bytes: &[u8]) -> usize
-    ensures { result ≡ first_outside alphabet_size bytes.now }
+// The first position, counted from 1, that holds no letter, if there is one. The bytes may be a word or a record.
+pub fn first_outside(bytes: &[u8]) -> Option<usize>
+    ensures { result ≡ nonzero (first_outside alphabet_size bytes.now) }
 {
-    let mut i = 0;
-    while i < bytes.len() {
-        if !is_letter(bytes[i]) {
-            return i + 1;
+    for (i, byte) in bytes.iter().enumerate() {
+        if !is_letter(*byte) {
+            return Some(i + 1);
         }
-        i += 1;
     }
-    0
+    None
 }
 
-// Whether a call may take the word: not if it is above the longest, and not if it holds a byte that is no letter, of which the first
-// position is answered.
-pub fn check_word(word: &[u8]) -> Outcome
-    ensures { result ≡ outcome_of (word_refusal word.now false 0 0) }
+// The word of these bytes, if a call may take it: not if it is above the longest, and not if it holds a byte that is no letter, of which the first
+// position is answered. A function and no `TryFrom`, since the pages of docs/ go by its name.
+pub fn check_word<'a>(word: &'a [u8]) -> Result<Word<'a>, Refusal>
+    ensures { result ≡ accepted_unless (word_refusal word.now false 0 0) word.now }
 {
     if word.len() > LONGEST {
-        return Outcome::Refused(Refusal::TooLong);
+        return Err(Refusal::TooLong);
     }
-    let position = first_outside(word);
-    if position > 0 {
-        return Outcome::Refused(Refusal::NotALetter(position));
+    match first_outside(word) {
+        Some(position) => Err(Refusal::NotALetter(position)),
+        None => Ok(Word { bytes: word }),
     }
-    Outcome::Accepted
 }
 
 // How often each letter stands in the part, in letter order. A part of a word is short enough that each count fits a byte. For
 // the crates above.
-pub fn count_letters(part: &[u8]) -> [u8; LETTERS]
-    requires t { T (of_letters part.now) }
-    requires part_len_bound { length part.now ≤ longest }
+pub fn count_letters(part: &Word) -> [u8; LETTERS]
     ensures { result ≡ vector part.now }
 {
+    let letters = part.letters();
     let mut counts = [0u8; LETTERS];
-    let mut i = 0;
-    while i < part.len() {
-        let place = (part[i] - FIRST_LETTER) as usize;
+    for letter in letters {
+        let place = (*letter - FIRST_LETTER) as usize;
         counts[place] += 1;
-        i += 1;
     }
     counts
 }
@@ -104,21 +213,17 @@ pub fn count_letters(part: &[u8]) -> [u8; LETTERS]
 // Fills the table with the counts of the letters in each prefix of the word: row i has those of the first i letters, and the rows behind
 // the word's end repeat those of the whole word. Each letter is read once, since a row is the one before it with one count more. The table
 // is lent, so that it lies on the stack once. For the crates above.
-pub fn count_prefixes(word: &[u8], table: &mut [[u8; WIDTH]; ROWS])
-    requires t { T (of_letters word.now) }
-    requires word_len_bound { length word.now ≤ longest }
-    requires table_len { length table.old ≡ suc longest }
+pub fn count_prefixes(word: &Word, table: &mut [[u8; WIDTH]; ROWS])
     ensures { table.new ≡ prefix_counts word.now }
 {
+    let letters = word.letters();
     let mut row = [0u8; WIDTH];
     table[0] = row;
-    let mut i = 0;
-    while i < LONGEST {
-        if i < word.len() {
-            let more = count_more(row, word[i] - FIRST_LETTER);
+    for i in 0..LONGEST {
+        if i < letters.len() {
+            let more = count_more(row, letters[i] - FIRST_LETTER);
             row = more;
         }
         table[i + 1] = row;
-        i += 1;
     }
 }

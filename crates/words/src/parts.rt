@@ -1,11 +1,10 @@
-// Count vectors of parts of a word, by rows of the table of prefix counts: their difference, and the two tests that the papers make of them. The
-// zeros behind the counts change neither the difference nor a test. Every place is looked at and no loop ends before the last one, so that each
-// becomes a few vector instructions. For the crates above.
+// Count vectors of parts of a word, as rows of the table of prefix counts or without the zeros behind them: their difference, and the two tests that the papers make of
+// them. The zeros change neither the difference nor a test. Every place is looked at and no loop ends before the last one, so that each becomes a few vector
+// instructions, as no `!=` and no `any` does; the loops are over places, since a zip of two arrays has a second way out. For the crates above.
 ghost use Rattle.std.specs.Prelude.{◌≡◌, not, [], ℕ, ◌+◌, ◌≤◌, ◌<◌, T, get_or, set};
 ghost use Rattle.abelian.specs.Lists.{same};
 ghost use Rattle.abelian.specs.Words.{longest, none_above};
 ghost use Rattle.words.specs.Differences.{minus};
-ghost use Rattle.words.specs.Prefixes.{width};
 
 use crate::{ROWS, WIDTH};
 
@@ -17,17 +16,16 @@ pub fn row(table: &[[u8; WIDTH]; ROWS], at: usize) -> [u8; WIDTH]
     table[at]
 }
 
-// The row with one more at a place. Every place is looked at, so that the row need not lie in memory.
-pub(crate) fn count_more(counts: [u8; WIDTH], place: u8) -> [u8; WIDTH]
-    requires place_lt_width { place < width }
-    requires by_index { (j : ℕ) → j < width → get_or counts j 0 < longest }
-    ensures { result ≡ set counts place (get_or counts place 0 + 1) }
+// The counts with one more at a place. Every place is looked at, so that the counts need not lie in memory.
+pub fn count_more<const N: usize>(counts: [u8; N], place: u8) -> [u8; N]
+    requires width_bound { N ≤ 256 }
+    requires place_lt_width { place < N }
+    requires by_index { (j : ℕ) → j < N → get_or counts j 0 < longest }
+    ensures { result ≡ set counts.entry place (get_or counts.entry place 0 + 1) }
 {
     let mut more = counts;
-    let mut j = 0;
-    while j < WIDTH {
+    for j in 0..N {
         more[j] = counts[j] + (place == j as u8) as u8;
-        j += 1;
     }
     more
 }
@@ -38,10 +36,8 @@ pub fn difference(longer: [u8; WIDTH], shorter: [u8; WIDTH]) -> [u8; WIDTH]
     ensures { result ≡ minus longer shorter }
 {
     let mut counts = longer;
-    let mut j = 0;
-    while j < WIDTH {
+    for j in 0..WIDTH {
         counts[j] = longer[j] - shorter[j];
-        j += 1;
     }
     counts
 }
@@ -51,23 +47,19 @@ pub fn exceeds(u: [u8; WIDTH], v: [u8; WIDTH]) -> bool
     ensures { result ≡ not (none_above u v) }
 {
     let mut found = false;
-    let mut j = 0;
-    while j < WIDTH {
+    for j in 0..WIDTH {
         found = found | (v[j] < u[j]);
-        j += 1;
     }
     found
 }
 
-// Whether the two rows differ in some count.
-pub fn differs(u: [u8; WIDTH], v: [u8; WIDTH]) -> bool
-    ensures { result ≡ not (same u v) }
+// Whether the two vectors differ in some count.
+pub fn differs<const N: usize>(u: [u8; N], v: [u8; N]) -> bool
+    ensures { result ≡ not (same u.entry v.entry) }
 {
     let mut found = false;
-    let mut j = 0;
-    while j < WIDTH {
+    for j in 0..N {
         found = found | (u[j] != v[j]);
-        j += 1;
     }
     found
 }
