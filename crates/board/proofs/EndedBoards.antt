@@ -12,7 +12,7 @@ use Rattle.abelian.specs.Lists.{pick, keep}
 use Rattle.abelian.specs.Words.{longest}
 use Rattle.abelian.specs.Periods.{Pair, in_range, row, pairs}
 use Rattle.abelian.specs.EndedLengths.{board_of}
-use Rattle.abelian.specs.Trackers.{board_size, entries, entry_added}
+use Rattle.abelian.specs.Trackers.{board_size, entries, entry_added, open_pairs}
 use Rattle.abelian.proofs.Tests.{is_false, decided}
 use Rattle.abelian.proofs.Lists.{keep_agree, keep_shorter}
 use Rattle.abelian.proofs.Pairs.{InRange, in_range_lem, range_in, in_range_longer, mem-row}
@@ -20,7 +20,8 @@ use Rattle.periods.proofs.PairCount.{length-row}
 use Rattle.board.specs.Places.{entry_at, is_open}
 use Rattle.board.specs.Ending.{entry_in_row, row_ended, row_open, all_ended}
 use Rattle.board.proofs.Places.{length-board_of, board_of_at, board_of_agree, board_of-entries, entries_of, entries-board_of, entry_made}
-use Rattle.board.proofs.Rows.{open_up_to, open_up_to_more, heads-le}
+use Rattle.board.proofs.Rows.{open_up_to, open_up_to_more, open_up_to_all, heads-le}
+use Rattle.board.proofs.EndedRows.{out_of_range_kept}
 
 -- the open pairs of a row are known by the row's entries
 row_agree : (g : Pair → ℕ) (board : List ℕ) (n p : ℕ) → 1 ≤ p → n ≤ longest → ((x : Pair) → T (in_range longest x) → x.period ≡ p → g x ≡ entry_at board x)
@@ -147,3 +148,21 @@ next_gone w old board board' tried live r s (suc m) long u l g e e' f =
       left_open = rw d' (open_more (length w) (all_ended w old) m live s (rw d at g.left_open) left);
       ended = rw d' next;
     }
+
+-- the row behind a loop's last
+module _ {w old board : List ℕ} {tried live p : ℕ} (long : length old ≡ board_size) (short : length w ≤ longest) (g : Gone w old board tried live p) (l : p ≡ suc (length w)) where
+  last : p - 1 ≡ length w
+  last = omega arith
+
+  pub gone_board : board ≡ all_ended w old
+  unfolding all_ended
+  gone_board = g.ended ∙ ap (λ (m : ℕ). board_of (up_to (entry_added w) m old)) last ∙ all_up_to (entry_added w) old long (length w) (out_of_range_kept w)
+
+  pub gone_tried : tried ≡ length (open_pairs (length w) old)
+  gone_tried = g.counted ∙ ap (λ (m : ℕ). length (open_up_to (length w) old m)) last ∙ ap length (open_up_to_all (length w) old short long)
+
+  pub gone_live : live ≡ length (open_pairs (length w) board)
+  gone_live =
+      g.left_open ∙ ap (λ (m : ℕ). length (open_up_to (length w) (all_ended w old) m)) last
+      ∙ ap length (open_up_to_all (length w) (all_ended w old) short (length_ended w old long))
+      ∙ ap (λ (b : List ℕ). length (open_pairs (length w) b)) (sym gone_board)

@@ -96,6 +96,11 @@ module _ (d : Pair) where
 pub place_below : (x : Pair) → T (in_range longest x) → place_of x < board_size
 place_below x t = omega (arith, (pair_at_place (pair 0 0) x t).0, board_length)
 
+-- the length of an array of a board's size
+pub board_long : (board : List ℕ) → length board ≡ 14520 → length board ≡ board_size
+unfolding board_size
+board_long board e = e
+
 pub length-board_of : (f : Pair → ℕ) → length (board_of f) ≡ board_size
 unfolding board_of
 length-board_of f = length-map (pairs longest) f ∙ board_length

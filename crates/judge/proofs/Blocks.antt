@@ -1,10 +1,11 @@
 -- Laws of the blocks of a word by their numbers: where each stands in the word, for a pair in range, and what the counts in two vectors say of
 -- a letter.
-use mathlib.Core.Path.{◌≡◌, sym, ◌∙◌}
-use mathlib.Core.Bool.{Bool, not}
+use mathlib.Core.Path.{◌≡◌, sym, ap, ◌∙◌}
+use mathlib.Core.Bool.{Bool, not, ◌||◌}
 use mathlib.Core.List.{List}
-use Prim.Native.Nat.{ℕ, suc, ◌+◌, ◌-◌, ◌*◌, ◌≤◌, ◌<◌}
+use Prim.Native.Nat.{ℕ, suc, ◌+◌, ◌-◌, ◌*◌, ◌/◌, ◌≤◌, ◌<◌, min}
 use native.Mathlib.Nat.{suc-mul, mul-le-mul_right, le-div_iff_mul-le, div-lt_iff_lt-mul, div-le_self}
+use native.Mathlib.Decide.{dec_le}
 use native.Mathlib.Omega.{arith}
 use lib.ListN.{length, take, drop, get_or, length-drop}
 use lib.Seq.{take_all}
@@ -36,6 +37,11 @@ module _ (w : List ℕ) (x : Pair) where
   unfolding block_at
   block_at_tail k l = rw (ne_eqb k 0 (λ e. omega arith), lt-leb k (whole_blocks (length w) x) l)
 
+  -- their number, as it is found
+  pub blocks_found : {n : ℕ} → n ≡ length w → (n - x.head) / x.period ≡ whole_blocks (length w) x
+  unfolding whole_blocks
+  blocks_found e = ap (λ (m : ℕ). (m - x.head) / x.period) e
+
   -- there are at most as many whole blocks as letters
   pub blocks_le_length : whole_blocks (length w) x ≤ length w
   unfolding whole_blocks
@@ -58,7 +64,7 @@ module _ (w : List ℕ) (x : Pair) (r : InRange (length w) x) (k : ℕ) (l : 1 �
       omega (arith, (reach (length w) x r.positive).low, r.fits)
 
   -- it is whole where p letters are left
-  pub part_whole : x.period ≤ length w - start x k → block_at w x k ≡ part w (start x k) x.period
+  part_whole : x.period ≤ length w - start x k → block_at w x k ≡ part w (start x k) x.period
   unfolding block whole_blocks
   part_whole h = block_at_whole w x k l ((le-div_iff_mul-le r.positive).1 (omega (arith, behind, r.positive)))
 
@@ -68,11 +74,19 @@ module _ (w : List ℕ) (x : Pair) (r : InRange (length w) x) (k : ℕ) (l : 1 �
   all_before h = (div-lt_iff_lt-mul r.positive).1 (omega (arith, behind, r.positive))
 
   -- where fewer letters are left, they are the tail
-  pub part_tail : k ≤ whole_blocks (length w) x + 1 → length w - start x k < x.period → block_at w x k ≡ part w (start x k) (length w - start x k)
+  part_tail : k ≤ whole_blocks (length w) x + 1 → length w - start x k < x.period → block_at w x k ≡ part w (start x k) (length w - start x k)
   unfolding tail_of
   part_tail u h =
       let e : whole_blocks (length w) x ≡ k - 1 = omega (arith, all_before h) in
       block_at_tail w x k (all_before h) ∙ rw e (sym (take_all (length w - start x k) (drop (start x k) w) (omega (arith, length-drop (start x k) w))))
+
+  -- so a block goes as far as p letters behind its beginning, or to the word's end
+  pub block_part : k ≤ whole_blocks (length w) x + 1 → (to : ℕ) → to ≡ min (length w) (start x k + x.period) → block_at w x k ≡ part w (start x k) (to - start x k)
+  block_part u to e = go (dec_le x.period (length w - start x k))
+    where
+      go : Dec (x.period ≤ length w - start x k) → block_at w x k ≡ part w (start x k) (to - start x k)
+      go (yes h) = let size : to - start x k ≡ x.period = omega (arith, start_within u) in rw size (part_whole h)
+      go (no h) = let size : to - start x k ≡ length w - start x k = omega (arith, start_within u) in rw size (part_tail u (omega arith))
 
 -- ---- the rule by two vectors
 
@@ -81,8 +95,11 @@ module _ (w : List ℕ) (x : Pair) (r : InRange (length w) x) where
   unfolding whole_blocks
   one_whole = (le-div_iff_mul-le r.positive).1 (omega (arith, r.fits))
 
-  -- a letter's counts in the vectors of a block and of block 1 say whether it breaks the rule there
-  pub rule_at : (k j : ℕ) {counts first : List ℕ} {end : Bool} → j < alphabet_size → end ≡ is_end w x k → counts ≡ vector (block_at w x k) → first ≡ vector (block_at w x 1)
-      → pick end (ltb (get_or first j 0) (get_or counts j 0)) (not (eqb (get_or counts j 0) (get_or first j 0))) ≡ breaks w x k (first_letter + j)
-  unfolding breaks
-  rule_at k j b e c f = rw (e, c, f, block_at_whole w x 1 (omega arith) one_whole, vector_at (block_at w x k) j b, vector_at (block w x 1) j b)
+  -- a letter's counts in the vectors of a block and of block 1 say whether it breaks the rule there; n letters have so many whole blocks
+  pub rule_at : (k j : ℕ) {n : ℕ} {counts first : List ℕ} {end broken : Bool} → n ≡ length w → j < alphabet_size
+      → end ≡ (eqb k 0 || ltb ((n - x.head) / x.period) k) → counts ≡ vector (block_at w x k) → first ≡ vector (block_at w x 1)
+      → broken ≡ pick end (ltb (get_or first j 0) (get_or counts j 0)) (not (eqb (get_or counts j 0) (get_or first j 0))) → broken ≡ breaks w x k (first_letter + j)
+  unfolding breaks is_end
+  rule_at k j {end = end} l b e c f t =
+      let z : end ≡ is_end w x k = e ∙ ap (λ (q : ℕ). eqb k 0 || ltb q k) (blocks_found w x l) in
+      t ∙ rw (z, c, f, block_at_whole w x 1 (omega arith) one_whole, vector_at (block_at w x k) j b, vector_at (block w x 1) j b)

@@ -3,6 +3,7 @@ pub mod Positions
 pub mod Gaps
 pub mod Reach
 pub mod LowestPeriods
+pub mod LettersRead
 pub mod Skipping
 pub mod Passed
 pub mod Listings

@@ -1,5 +1,5 @@
 -- Laws of listings: an accepted word's list, and what a board of zeros holds after its pairs have been ended.
-use mathlib.Core.Path.{◌≡◌, refl, sym, ap, ap₂, ◌∙◌}
+use mathlib.Core.Path.{◌≡◌, refl, sym, ap, ap₂, subst, ◌∙◌}
 use mathlib.Core.Logic.{⊎_elim}
 use mathlib.Core.Bool.{true, false, ◌&&◌}
 use mathlib.Core.Option.{none}
@@ -16,18 +16,20 @@ use Rattle.abelian.specs.Output.{period_word}
 use Rattle.abelian.specs.Trials.{plain_trials, is_candidate, candidates, skipping_trials}
 use Rattle.abelian.specs.EndedLengths.{board_of}
 use Rattle.abelian.specs.Refusals.{word_refusal}
-use Rattle.abelian.specs.Calls.{listing, period_words, plain_listing, skipping_listing}
+use Rattle.abelian.specs.Calls.{listing, period_words}
 use Rattle.abelian.specs.Trackers.{board_size, open_pairs, entries, entry_added}
 use Rattle.abelian.proofs.Tests.{is_true, is_false, fails, decided}
 use Rattle.abelian.proofs.Lists.{keep_agree}
 use Rattle.abelian.proofs.Pairs.{InRange, in_range_lem, pairs-in_range}
-use Rattle.words.proofs.Refusals.{accepted_length, accepted_letters}
+use Rattle.words.specs.Prefixes.{IsWord}
 use Rattle.words.proofs.Listings.{listing_short, listing_written}
+use Rattle.board.specs.declared.ending.Trials.{Trials}
 use Rattle.board.specs.Places.{place_of, entry_at}
 use Rattle.board.specs.Ending.{all_ended}
 use Rattle.board.proofs.Places.{place_below, board_of_agree, pairs_where-board_of, keep-in_range, board_of-entries, entries-board_of}
 use Rattle.board.proofs.EndedRows.{ended_kept, period_kept, open_ended}
 use Rattle.listers.specs.OpenListing.{words_listed, open_listing}
+use Rattle.listers.specs.PeriodsLeft.{PeriodsLeft}
 use Rattle.listers.specs.Lowest.{lowest_periods}
 use Rattle.listers.specs.Passing.{entry_passed, all_passed, others_passed}
 use Rattle.listers.proofs.LowestPeriods.{candidate_entry}
@@ -89,18 +91,34 @@ pub open_count : (w board : List ℕ) → open_pairs (length w) board ≡ period
 unfolding period_words
 open_count w board e = ap length e ∙ sym (length-map (periods w) period_word)
 
--- ---- the plain lister's answer
+-- ---- a step that leaves the Abelian periods open
 
-pub plain_listed : (w out board : List ℕ) (trials : ℕ) → word_refusal w false 0 0 ≡ none → board ≡ all_ended w zeros → trials ≡ length (open_pairs (length w) zeros)
-    → open_listing (length w) board trials out ≡ plain_listing w out
-unfolding open_listing plain_listing period_words plain_trials
-plain_listed w out board trials a e f =
-    let l : length w ≤ longest = accepted_length w a in
-    ap₂ (λ b k. words_listed (map period_word (open_pairs (length w) b)) k out) e f
-    ∙ ap₂ (λ xs ys. words_listed (map period_word xs) (length ys) out) (ended_periods w l) (zeros_open (length w) l)
-    ∙ sym (accepted_listing w out (map period_word (periods w)) (length (pairs (length w))) a)
+-- the list of what it leaves open is the list of the word's Abelian periods; the word is given as v
+pub periods_listed : (w out : List ℕ) {v board : List ℕ} {n : ℕ} {found : Trials} (trials : List ℕ → ℕ) → word_refusal w false 0 0 ≡ none → v ≡ w → n ≡ length v
+    → PeriodsLeft v (trials v) found board → open_listing n board found.tried out ≡ listing w out (period_words w) (trials w) 0 0
+unfolding open_listing period_words
+periods_listed w out {v} {board} {n} {found} trials a e m q =
+    let p : PeriodsLeft w (trials w) found board = subst (λ (u : List ℕ). PeriodsLeft u (trials u) found board) e q in
+    ap (λ (k : ℕ). words_listed (map period_word (open_pairs k board)) found.tried out) (m ∙ ap length e)
+    ∙ ap₂ (λ xs k. words_listed (map period_word xs) k out) p.left p.tried
+    ∙ sym (accepted_listing w out (map period_word (periods w)) (trials w) a)
 
--- ---- the skipping lister's answer
+-- and it has as many words
+pub periods_counted : {w v board : List ℕ} {trials : ℕ} {found : Trials} → v ≡ w → PeriodsLeft v trials found board → found.live ≡ length (period_words w)
+periods_counted {v = v} {board} e p = p.live ∙ open_count v board p.left ∙ ap (λ (u : List ℕ). length (period_words u)) e
+
+-- the plain lister's step is one
+pub plain_left : (w : List ℕ) {board after : List ℕ} (found : Trials) → IsWord w → board ≡ zeros → found.tried ≡ length (open_pairs (length w) board)
+    → found.live ≡ length (open_pairs (length w) after) → after ≡ all_ended w board → PeriodsLeft w (plain_trials w) found after
+unfolding plain_trials
+plain_left w found is z t l e =
+    record {
+      tried = t ∙ ap (λ (b : List ℕ). length (open_pairs (length w) b)) z ∙ ap length (zeros_open (length w) is.short);
+      live = l;
+      left = ap (open_pairs (length w)) (e ∙ ap (all_ended w) z) ∙ ended_periods w is.short;
+    }
+
+-- ---- the skipping lister's step
 
 module _ (w : List ℕ) (t : T (of_letters w)) (l : length w ≤ longest) where
   abbrev entry : Pair → ℕ
@@ -154,12 +172,13 @@ module _ (w : List ℕ) (t : T (of_letters w)) (l : length w ≤ longest) where
       ∙ open_of_entries (length w) (λ (x : Pair). entry_added w x (entry x)) l
       ∙ keep_agree (λ (x : Pair). eqb (entry_added w x (entry x)) 0) (is_period w) (pairs (length w)) (λ x m. tried_period x (pairs-in_range (length w) x m))
 
-pub skipping_listed : (w out board : List ℕ) (trials : ℕ) → word_refusal w false 0 0 ≡ none → board ≡ all_ended w (others_passed w zeros) → trials ≡ length (open_pairs (length w) (others_passed w zeros))
-    → open_listing (length w) board trials out ≡ skipping_listing w out
-unfolding open_listing skipping_listing period_words skipping_trials
-skipping_listed w out board trials a e f =
-    let l : length w ≤ longest = accepted_length w a in
-    let t : T (of_letters w) = accepted_letters w a in
-    ap₂ (λ b k. words_listed (map period_word (open_pairs (length w) b)) k out) e f
-    ∙ ap₂ (λ xs ys. words_listed (map period_word xs) (length ys) out) (tried_periods w t l) (passed_open w t l)
-    ∙ sym (accepted_listing w out (map period_word (periods w)) (length (candidates w)) a)
+-- so the skipping lister's step leaves them open too
+pub skipping_left : (w : List ℕ) {board after : List ℕ} (found : Trials) → IsWord w → board ≡ zeros → found.tried ≡ length (open_pairs (length w) (others_passed w board))
+    → found.live ≡ length (open_pairs (length w) after) → after ≡ all_ended w (others_passed w board) → PeriodsLeft w (skipping_trials w) found after
+unfolding skipping_trials
+skipping_left w found is z t l e =
+    record {
+      tried = t ∙ ap (λ (b : List ℕ). length (open_pairs (length w) (others_passed w b))) z ∙ ap length (passed_open w is.all is.short);
+      live = l;
+      left = ap (open_pairs (length w)) (e ∙ ap (λ (b : List ℕ). all_ended w (others_passed w b)) z) ∙ tried_periods w is.all is.short;
+    }

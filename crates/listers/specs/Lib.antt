@@ -1,3 +1,4 @@
 pub mod OpenListing
 pub mod Lowest
 pub mod Passing
+pub mod PeriodsLeft

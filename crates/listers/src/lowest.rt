@@ -1,54 +1,46 @@
-// The lowest period to try with each head: L(h) of document 01, by the select function of document 004.
+// The lowest period to try with each head: L(h) of document 01, by the select function of document 004. Its tables are arrays of bytes side by side, one for each definition: memory
+// is fixed.
+#![tactic(auto, using(crate::proofs::LettersRead::read_from, crate::proofs::LettersRead::read_place, crate::proofs::LettersRead::read_inside, crate::proofs::LettersRead::read_small, crate::proofs::LettersRead::read_on_table, crate::proofs::LettersRead::read_some, crate::proofs::LettersRead::read_twice), unfolding(abelian::specs::Words::first_letter, abelian::specs::Words::alphabet_size, abelian::specs::Words::longest))]
+
 ghost use Rattle.std.specs.Prelude.{◌≡◌, ◌≤◌};
 ghost use Rattle.abelian.specs.Words.{longest};
-ghost use Rattle.words.specs.Prefixes.{Counted};
 ghost use Rattle.listers.specs.Lowest.{positions, no_positions, greatest_gaps, lowest_above, lowest_periods};
 
 use abelian::{FIRST_LETTER, Head, LETTERS};
-use words::{ROWS, WIDTH};
+use words::{CountedWord, ROWS};
 
-// The entry of a head with which no pair is tried: it is above every period.
+// The entry of a head with which no pair is tried: it is above every period. A byte and no `Option`, so that one comparison of bytes tells whether a pair is passed over.
 const UNTRIED: u8 = 255;
 
 // Enters the positions of each letter's occurrences into a table of zeros that the caller lends: entry k of a letter's row is the position of
 // its occurrence number k + 1, or 0 where the letter has no more than k. Each letter of the word is read once, since the counts of the
-// letters before it say which occurrence it is.
-fn find_positions(word: &[u8], counts: &[[u8; WIDTH]; ROWS], found: &mut [[u8; ROWS]; LETTERS])
-    requires counted { Counted word.now counts.now }
-    requires found_value { found.old ≡ no_positions }
+// letters before it say which occurrence it is. It is a table of bytes, as the definition has it, and of no `Option`s, which would take twice the stack.
+fn find_positions(word: &CountedWord, found: &mut [[u8; ROWS]; LETTERS])
+    requires { found.old ≡ no_positions }
     ensures { found.new ≡ positions word.now }
 {
-    let mut i = 0;
-    while i < word.len() {
-        let place = (word[i] - FIRST_LETTER) as usize;
-        let k = counts[i][place] as usize;
+    let letters = word.letters();
+    for (i, letter) in letters.iter().enumerate() {
+        let place = (*letter - FIRST_LETTER) as usize;
+        let k = word.row(i)[place] as usize;
         found[place][k] = (i + 1) as u8;
-        i += 1;
     }
 }
 
 // The greatest gap G behind each head: entry h is that of the letters after position h. It is found from the right, since one letter more
 // brings one distance more, that to the letter's next occurrence.
-fn greatest_gaps(
-    word: &[u8],
-    counts: &[[u8; WIDTH]; ROWS],
-    select: &[[u8; ROWS]; LETTERS],
-) -> [u8; ROWS]
-    requires counted { Counted word.now counts.now }
-    requires select_value { select.now ≡ positions word.now }
+fn greatest_gaps(word: &CountedWord, select: &[[u8; ROWS]; LETTERS]) -> [u8; ROWS]
+    requires { select.now ≡ positions word.now }
     ensures { result ≡ greatest_gaps word.now }
 {
+    let letters = word.letters();
     let mut gaps = [0u8; ROWS];
     let mut gap: usize = 0;
-    let mut i = word.len();
-    while 0 < i {
-        let place = (word[i - 1] - FIRST_LETTER) as usize;
-        let k = counts[i][place] as usize;
+    for i in (0..letters.len()).rev() {
+        let place = (letters[i] - FIRST_LETTER) as usize;
+        let k = word.row(i + 1)[place] as usize;
         let next = select[place][k] as usize;
-        if gap + i < next {
-            gap = next - i;
-        }
-        i -= 1;
+        gap = gap.max(next.saturating_sub(i + 1));
         gaps[i] = gap as u8;
     }
     gaps
@@ -62,14 +54,8 @@ fn lowest_period(head: Head, reach: usize, gap: u8) -> u8
     ensures { result ≡ lowest_above head.0 reach gap }
 {
     let h = head.0;
-    let mut lowest = h + 1;
     let half = ((gap as usize) + 1) / 2;
-    if lowest < half {
-        lowest = half;
-    }
-    if lowest + h < reach {
-        lowest = reach - h;
-    }
+    let lowest = (h + 1).max(half).max(reach.saturating_sub(h));
     lowest as u8
 }
 
@@ -77,28 +63,24 @@ fn lowest_period(head: Head, reach: usize, gap: u8) -> u8
 // range or is ruled out. A pair in range is tried exactly where its period is not below its head's entry. A head that is one letter longer
 // has one more of that letter, c in all. Its reach is the larger of the shorter head's reach and the position of that letter's occurrence
 // number 2c; where there is no such occurrence, this head and every longer one are ruled out.
-pub(crate) fn lowest_periods(word: &[u8], counts: &[[u8; WIDTH]; ROWS]) -> [u8; ROWS]
-    requires { Counted word.now counts.now }
+pub(crate) fn lowest_periods(word: &CountedWord) -> [u8; ROWS]
     ensures { result ≡ lowest_periods word.now }
 {
     let mut select = [[0u8; ROWS]; LETTERS];
-    find_positions(word, counts, &mut select);
-    let gaps = greatest_gaps(word, counts, &select);
+    find_positions(word, &mut select);
+    let gaps = greatest_gaps(word, &select);
+    let letters = word.letters();
     let mut lowest = [UNTRIED; ROWS];
     let mut reach: usize = 0;
-    let mut h = 0;
-    while 2 * h < word.len() {
+    for h in 0..(letters.len() + 1) / 2 {
         lowest[h] = lowest_period(Head(h), reach, gaps[h]);
-        let place = (word[h] - FIRST_LETTER) as usize;
-        h += 1;
-        let c = counts[h][place] as usize;
+        let place = (letters[h] - FIRST_LETTER) as usize;
+        let c = word.row(h + 1)[place] as usize;
         let at = select[place][2 * c - 1] as usize;
         if at == 0 {
             return lowest;
         }
-        if reach < at {
-            reach = at;
-        }
+        reach = reach.max(at);
     }
     lowest
 }
