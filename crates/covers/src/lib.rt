@@ -1,17 +1,19 @@
 // Abelian covers (document 003): the search for the cover length of a word, in one pass from both ends.
 #![tactic(auto)]
 
-ghost use Rattle.std.specs.Prelude.{◌≡◌, ◌≤◌, T, length};
-ghost use Rattle.abelian.specs.Words.{longest, of_letters};
+ghost use Rattle.std.specs.Prelude.{◌≡◌};
+ghost use Rattle.abelian.specs.Lists.{nonzero};
 ghost use Rattle.abelian.specs.Covers.{cover_length};
 ghost use Rattle.abelian.specs.Answers.{answered_covered};
 ghost use Rattle.abelian.specs.Calls.{cover_answer};
 ghost use Rattle.covers.specs.Differing.{differing, one_more, CanCount};
 
-use abelian::{Covered, FIRST_LETTER, LETTERS, Outcome};
+use abelian::{FIRST_LETTER, LETTERS, Refusal};
+use words::{Word, check_word};
 
 // Counts one more of the letter, and returns at how many letters the two vectors differ then, from the number before: only this
 // letter's counts can have become unequal or equal.
+// The vectors and the number are parameters and no struct, since the two calls for a turn exchange the vectors.
 fn count_letter(
     counts: &mut [u8; LETTERS],
     other: &[u8; LETTERS],
@@ -36,45 +38,31 @@ fn count_letter(
     differ
 }
 
-// The cover length of the word, or 0 where it has none. The first and the last m letters have equal vectors exactly where the first and
-// the last n - m have, so that it is enough to count from both ends up to the middle; the longest such ends leave the smallest m.
-// For the crates above.
-pub fn cover_length(word: &[u8]) -> usize
-    requires t { T (of_letters word.now) }
-    requires word_len_bound { length word.now ≤ longest }
-    ensures { result ≡ cover_length word.now }
+// The cover length of the word, if it has one. The first and the last m letters have equal vectors exactly where the first and the last n - m
+// have, so that it is enough to count from both ends up to the middle; the longest such ends leave the smallest m. For the crates above.
+pub fn cover_length(word: &Word) -> Option<usize>
+    ensures { result ≡ nonzero (cover_length word.now) }
 {
+    let letters = word.letters();
     let mut first = [0u8; LETTERS];
     let mut last = [0u8; LETTERS];
     let mut differ = 0;
-    let mut found = 0;
-    let mut left = 0;
-    let mut right = word.len();
-    while left + 1 < right {
-        right -= 1;
-        differ = count_letter(&mut first, &last, word[left], differ);
-        differ = count_letter(&mut last, &first, word[right], differ);
-        left += 1;
+    let mut found = None;
+    for left in 0..letters.len() / 2 {
+        let right = letters.len() - 1 - left;
+        differ = count_letter(&mut first, &last, letters[left], differ);
+        differ = count_letter(&mut last, &first, letters[right], differ);
         if differ == 0 {
-            found = right;
+            found = Some(right);
         }
     }
     found
 }
 
 // The cover length of the word, or that it has no cover.
-pub fn find_cover(word: &[u8]) -> Covered
+pub fn find_cover(word: &[u8]) -> Result<Option<usize>, Refusal>
     ensures { answered_covered result ≡ cover_answer word.now }
 {
-    match words::check_word(word) {
-        Outcome::Refused(refusal) => Covered::Refused(refusal),
-        Outcome::Accepted => {
-            let m = cover_length(word);
-            if m == 0 {
-                Covered::Nothing
-            } else {
-                Covered::Length(m)
-            }
-        }
-    }
+    let word = check_word(word)?;
+    Ok(cover_length(&word))
 }

@@ -10,7 +10,7 @@ use native.Mathlib.Omega.{arith}
 use lib.ListN.{length, take, drop_of_length-le}
 use lib.Dec.{T}
 use Rattle.abelian.specs.Lists.{up_from}
-use Rattle.abelian.specs.Words.{letters, of_letters, count, vector, contained, part}
+use Rattle.abelian.specs.Words.{of_letters, count, vector, contained, part}
 use Rattle.abelian.specs.Periods.{pair, head_of, block, whole_blocks, tail_of, is_period}
 use Rattle.abelian.specs.FullPeriods.{proper_divisor, is_full, full_periods}
 use Rattle.abelian.proofs.Tests.{is_false, both, left, right}

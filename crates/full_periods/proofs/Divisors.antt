@@ -1,16 +1,20 @@
--- Laws of divisors: the tests, Euclid's algorithm, and the greatest common divisor of a list.
-use mathlib.Core.Path.{◌≡◌, refl, sym, subst}
+-- Laws of divisors: the tests, Euclid's algorithm, the greatest common divisor of a list, and the quotients of a list.
+use mathlib.Core.Path.{◌≡◌, refl, sym, ap, subst, ◌∙◌}
 use mathlib.Core.Logic.{⊎_elim}
 use mathlib.Core.List.Memᴰ
 use mathlib.Core.List.{List, [], ◌∷◌, ◌++◌}
-use Prim.Native.Nat.{ℕ, zero, suc, ◌%◌, ◌≤◌, ◌<◌, ◌∣◌}
-use native.Mathlib.Nat.{dvd_refl, dvd-zero, dvd_trans, dvd-mod_iff, dvd_antisymm, mod-lt, mod-eq-zero_of_dvd, dvd_of_mod-eq-zero, eq-zero-or-pos}
+use Prim.Native.Nat.{ℕ, zero, suc, ◌+◌, ◌/◌, ◌%◌, ◌≤◌, ◌<◌, ◌∣◌}
+use native.Mathlib.Nat.{dvd_refl, dvd-zero, dvd_trans, dvd-mod_iff, dvd_antisymm, mod-lt, mod-eq-zero_of_dvd, dvd_of_mod-eq-zero, eq-zero-or-pos, zero-div}
+use native.Mathlib.Numerals.{add-one}
 use native.Mathlib.Omega.{arith}
+use lib.ListN.{length, take, get_or, set, length-map, length-set, get_or-map}
+use lib.Seq.{take-suc, take_all, ext_get_or, get_or-set_same, get_or-set_other}
 use lib.Dec.{T, eqb, ltb, eqb→eq, leb→le, le→leb}
 use borrow.Author.Tests.{eq-eqb}
 use Rattle.abelian.specs.FullPeriods.{divides, proper_divisor}
 use Rattle.abelian.proofs.Tests.{passes, both, left, right}
-use Rattle.full_periods.specs.Divisors.{GreatestDivisor}
+use Rattle.abelian.proofs.Lists.{below_or_not}
+use Rattle.full_periods.specs.Divisors.{GreatestDivisor, divided}
 
 -- ---- the tests
 
@@ -98,6 +102,21 @@ greatest_more {xs} {g} {x} {r} h k = record {
       (Memᴰ.cases_cons m));
 }
 
+-- g is the greatest common divisor of the first i numbers
+pub record FirstDivisor (xs : List ℕ) (i g : ℕ) : Type 0 where
+  pub greatest : GreatestDivisor (take i xs) g
+
+pub first_divisor_start : (xs : List ℕ) → FirstDivisor xs 0 0
+first_divisor_start xs = record { greatest = greatest_nil }
+
+-- with the next number
+pub first_divisor_more : {xs : List ℕ} {i g r : ℕ} → FirstDivisor xs i g → i < length xs → GreatestDivisor (g ∷ get_or xs i 0 ∷ []) r → FirstDivisor xs (i + 1) r
+first_divisor_more {xs} {i} h l k = record { greatest = rw (add-one i, take-suc xs i 0 l) (greatest_more h.greatest k) }
+
+-- of all
+pub first_divisor_end : {xs : List ℕ} {i g : ℕ} → FirstDivisor xs i g → length xs ≤ i → GreatestDivisor xs g
+first_divisor_end {xs} {i} h l = rw (take_all i xs l) at h.greatest
+
 -- a list has one greatest common divisor alone
 pub greatest_unique : {xs : List ℕ} {g r : ℕ} → GreatestDivisor xs g → GreatestDivisor xs r → g ≡ r
 greatest_unique {xs} {g} {r} h k = dvd_antisymm (k.greatest g h.common) (h.greatest r k.common)
@@ -116,3 +135,38 @@ greatest_exists (x ∷ xs) =
         greatest = λ d i. (r.1.to d (i x (Memᴰ.head refl)) (h.1.greatest d (λ y m. i y (Memᴰ.tail m)))).0;
       },
     )
+
+-- ---- quotients of counts, place by place
+
+-- the places below j have the counts divided by g, and those from j on the counts
+pub record Divided (counts : List ℕ) (g : ℕ) (unit : List ℕ) (j : ℕ) : Type 0 where
+  pub size : length unit ≡ length counts
+  pub done : (i : ℕ) → i < j → get_or unit i 0 ≡ get_or counts i 0 / g
+  pub ahead : (i : ℕ) → j ≤ i → get_or unit i 0 ≡ get_or counts i 0
+
+module _ (counts : List ℕ) (g : ℕ) where
+  -- before the first place
+  pub divided-none : Divided counts g counts 0
+  divided-none = record { size = refl; done = λ i m. absurd (omega arith); ahead = λ i m. refl }
+
+  module _ (unit : List ℕ) (j : ℕ) (h : Divided counts g unit j) where
+    -- one place more
+    pub divided-more : j < length unit → Divided counts g (set unit j (get_or unit j 0 / g)) (j + 1)
+    divided-more b = record {
+      size = length-set unit j (get_or unit j 0 / g) ∙ h.size;
+      done = λ i m.
+          ⊎_elim (λ (q : i < j). get_or-set_other unit j i (get_or unit j 0 / g) 0 (λ r. omega arith) ∙ h.done i q)
+          (λ (q : j ≤ i).
+          let r : i ≡ j = omega arith in
+          rw r (get_or-set_same unit j (get_or unit j 0 / g) 0 b ∙ ap (λ (x : ℕ). x / g) (h.ahead j (omega arith)))) (below_or_not i j);
+      ahead = λ i m. get_or-set_other unit j i (get_or unit j 0 / g) 0 (λ r. omega arith) ∙ h.ahead i (omega arith);
+    }
+
+    -- all places
+    pub divided-all : length counts ≤ j → unit ≡ divided counts g
+    unfolding divided
+    divided-all l =
+        ext_get_or 0 unit (divided counts g) (h.size ∙ sym (length-map counts (λ (x : ℕ). x / g)))
+        (λ i m.
+        let e : get_or (divided counts g) i (0 / g) ≡ get_or counts i 0 / g = get_or-map (λ (x : ℕ). x / g) counts i 0 in
+        h.done i (omega (arith, h.size)) ∙ sym (rw (zero-div g) at e))

@@ -2,8 +2,12 @@
 pub mod Lists
 pub mod Tables
 pub mod Divisors
+pub mod Multiples
 pub mod Blocks
+pub mod Stepping
+pub mod Alike
 pub mod Listing
 pub mod Lemma3
 pub mod Positions
+pub mod Scaling
 pub mod TwoBlocks

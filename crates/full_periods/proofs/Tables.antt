@@ -89,6 +89,10 @@ module _ (f : ℕ → Bool) where
       ahead = λ k l. m.ahead k (omega arith);
     }
 
+    -- so is one that fails
+    pub marking_skip : f i ≡ false → Marking f table (i + 1)
+    marking_skip e = marking_pass (i + 1) (omega arith) (λ k a b. let q : k ≡ i = omega arith in ap f q ∙ e)
+
     -- where all that are left fail, the table is that of the numbers that pass
     pub marking_end : ((k : ℕ) → i ≤ k → f k ≡ false) → table ≡ marks f
     marking_end fail =

@@ -8,76 +8,76 @@ mod marks;
 mod plain;
 mod scaled;
 
-ghost use Rattle.std.specs.Prelude.{◌≡◌, ◌≤◌, T, length};
-ghost use Rattle.abelian.specs.Words.{longest, of_letters};
+ghost use Rattle.std.specs.Prelude.{◌≡◌, length};
 ghost use Rattle.abelian.specs.Calls.{full_words, full_listing, scaled_listing, full_count};
 ghost use Rattle.abelian.specs.Answers.{answered_wrote, answered_scaled, answered_needed};
 
-use abelian::{Needed, Outcome, Refusal, Scaled, Wrote};
+use abelian::{Refusal, Scaled};
+use marks::Marked;
+use scaled::ScaledPath;
+use words::{Word, check_word};
 
-// Writes the full periods by rising p, found by counting every block.
-pub fn list_full(word: &[u8], out: &mut [u32]) -> Wrote
+// Writes the full periods by rising p, found by counting every block, and answers how many words it wrote.
+pub fn list_full(word: &[u8], out: &mut [u32]) -> Result<usize, Refusal>
     ensures { answered_wrote result out.new ≡ full_listing word.now out.old }
 {
-    if let Outcome::Refused(refusal) = words::check_word(word) {
-        return Wrote::Refused(refusal);
-    }
-    let marks = plain::mark_full(word);
-    let needed = marks::count_marked(&marks, word.len(), 1);
-    if out.len() < needed {
-        return Wrote::Refused(Refusal::SliceTooShort(needed));
-    }
-    marks::write_marked(&marks, word.len(), 1, out);
-    Wrote::Words(needed)
+    let word = check_word(word)?;
+    let marks = plain::mark_full(&word);
+    let marked = Marked {
+        marks: &marks,
+        n: word.len(),
+        step: 1,
+    };
+    marked.list(out)
 }
 
-// Writes the full periods by rising p, found by the scaled positions, and answers s and T.
-pub fn list_full_scaled(word: &[u8], out: &mut [u32]) -> Scaled
+// Writes the full periods by rising p, found by the scaled positions, and answers how many words it wrote, s and T. It and the plain list stay two
+// functions, as the two counts do: the scaled list answers s and T too, so that one function over both would be no shorter.
+pub fn list_full_scaled(word: &[u8], out: &mut [u32]) -> Result<Scaled, Refusal>
     ensures { answered_scaled result out.new ≡ scaled_listing word.now out.old }
 {
-    if let Outcome::Refused(refusal) = words::check_word(word) {
-        return Scaled::Refused(refusal);
-    }
-    let path = scaled::find_path(word);
-    let marks = path.marks;
-    let words = marks::count_marked(&marks, word.len(), path.s);
-    if words > out.len() {
-        return Scaled::Refused(Refusal::SliceTooShort(words));
-    }
-    marks::write_marked(&marks, word.len(), path.s, out);
-    let s = path.s;
-    let t = path.t;
-    Scaled::Written { words, s, t }
+    let word = check_word(word)?;
+    let ScaledPath { s, t, marks } = scaled::find_path(&word);
+    let marked = Marked {
+        marks: &marks,
+        n: word.len(),
+        step: s,
+    };
+    let words = marked.list(out)?;
+    Ok(Scaled { words, s, t })
 }
 
-// The number of full periods of a word that may be taken, by the scaled path. For the count and the crates above.
-pub fn number_of_full_periods(word: &[u8]) -> usize
-    requires t { T (of_letters word.now) }
-    requires word_len_bound { length word.now ≤ longest }
+// The number of full periods of a word, by the scaled path. For the count and the crates above.
+pub fn number_of_full_periods(word: &Word) -> usize
     ensures { result ≡ length (full_words word.now) }
 {
-    let path = scaled::find_path(word);
-    let marks = path.marks;
-    marks::count_marked(&marks, word.len(), path.s)
+    let ScaledPath { s, marks, .. } = scaled::find_path(word);
+    let marked = Marked {
+        marks: &marks,
+        n: word.len(),
+        step: s,
+    };
+    marked.count()
 }
 
 // How many full periods the plain path writes, found as it finds them.
-pub fn count_full(word: &[u8]) -> Needed
+pub fn count_full(word: &[u8]) -> Result<usize, Refusal>
     ensures { answered_needed result ≡ full_count word.now }
 {
-    if let Outcome::Refused(refusal) = words::check_word(word) {
-        return Needed::Refused(refusal);
-    }
-    let marks = plain::mark_full(word);
-    Needed::Words(marks::count_marked(&marks, word.len(), 1))
+    let word = check_word(word)?;
+    let marks = plain::mark_full(&word);
+    let marked = Marked {
+        marks: &marks,
+        n: word.len(),
+        step: 1,
+    };
+    Ok(marked.count())
 }
 
 // How many full periods the scaled path writes, found as it finds them.
-pub fn count_full_scaled(word: &[u8]) -> Needed
+pub fn count_full_scaled(word: &[u8]) -> Result<usize, Refusal>
     ensures { answered_needed result ≡ full_count word.now }
 {
-    if let Outcome::Refused(refusal) = words::check_word(word) {
-        return Needed::Refused(refusal);
-    }
-    Needed::Words(number_of_full_periods(word))
+    let word = check_word(word)?;
+    Ok(number_of_full_periods(&word))
 }

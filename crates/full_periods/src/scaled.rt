@@ -1,14 +1,16 @@
 // The scaled path of document 002: with g the greatest common divisor of the letter counts and s = n / g, a full period is a multiple
 // of s, and every multiple of it is a scaled position.
-ghost use Rattle.std.specs.Prelude.{◌≡◌, ◌≤◌, T, length};
-ghost use Rattle.abelian.specs.Words.{longest, of_letters};
+ghost use Rattle.std.specs.Prelude.{◌≡◌, ◌≤◌};
 ghost use Rattle.abelian.specs.FullPeriods.{scale, scaled_gap};
 ghost use Rattle.full_periods.specs.Marks.{full_marks, scaled_marks};
 ghost use Rattle.full_periods.specs.Divisors.{unit_counts};
 ghost use Rattle.full_periods.specs.Paths.{scaled_path};
 
+use crate::counts::{count_divisor, divide, is_multiple};
+use crate::marks::{Marked, marks_multiples};
 use abelian::{FIRST_LETTER, LETTERS, Period};
-use words::ROWS;
+use words::parts::count_more;
+use words::{ROWS, Word, count_letters};
 
 // What the path finds: the numbers s and T of document 01, and the table of the full periods.
 #[derive(Drop)]
@@ -19,44 +21,41 @@ pub struct ScaledPath {
 }
 
 // The table of the scaled positions. Each letter is read once, and the running counts are compared only at the multiples of s. The
-// last s letters are not read, since of the last s positions the word's end is scaled and no other.
-fn mark_scaled(word: &[u8], s: usize, unit: [u8; LETTERS]) -> [u8; ROWS]
-    requires t { T (of_letters word.now) }
-    requires word_len_bound { length word.now ≤ longest }
-    requires in_bounds { 1 ≤ length word.now }
+// last s letters are not read, since of the last s positions the word's end is scaled and no other. The multiples are counted beside the letters: by chunks of s letters there
+// would be a loop inside a loop.
+fn mark_scaled(word: &Word, s: usize, unit: [u8; LETTERS]) -> [u8; ROWS]
+    requires le_s { 1 ≤ s }
     requires s_value { s ≡ scale word.now }
     requires unit_value { unit ≡ unit_counts word.now }
     ensures { result ≡ scaled_marks word.now }
 {
+    let letters = word.letters();
+    let n = word.len();
     let mut marks = [0u8; ROWS];
     marks[0] = 1;
     let mut counts = [0u8; LETTERS];
     let mut times: u16 = 1;
     let mut next = s;
-    let last = word.len() - s;
-    let mut i = 0;
-    while i < last {
-        let more = crate::counts::count_more(counts, word[i] - FIRST_LETTER);
+    for (i, letter) in letters[0..n - s].iter().enumerate() {
+        let more = count_more(counts, *letter - FIRST_LETTER);
         counts = more;
-        i += 1;
-        if i == next {
-            if crate::counts::is_multiple(counts, times, unit) {
-                marks[i] = 1;
+        if i + 1 == next {
+            if is_multiple(counts, times, unit) {
+                marks[next] = 1;
             }
             times += 1;
             next += s;
         }
     }
-    marks[word.len()] = 1;
+    marks[n] = 1;
     marks
 }
 
 // The table of the full periods: of the multiples of s from s times T on those that divide n and whose multiples are all scaled. None is
-// above n / 2, since two blocks fit the word.
-fn mark_full(word: &[u8], s: usize, t: usize, positions: &[u8; ROWS]) -> [u8; ROWS]
-    requires t { T (of_letters word.now) }
-    requires word_len_bound { length word.now ≤ longest }
-    requires in_bounds { 1 ≤ length word.now }
+// above n / 2, since two blocks fit the word. The plain path's `mark_full` has another range and another test, and the contract of a closure for the
+// test would be as long as this loop.
+fn mark_full(word: &Word, s: usize, t: usize, positions: &[u8; ROWS]) -> [u8; ROWS]
+    requires le_s { 1 ≤ s }
     requires s_value { s ≡ scale word.now }
     requires t_value { t ≡ scaled_gap word.now }
     requires positions_value { positions.now ≡ scaled_marks word.now }
@@ -64,24 +63,22 @@ fn mark_full(word: &[u8], s: usize, t: usize, positions: &[u8; ROWS]) -> [u8; RO
 {
     let n = word.len();
     let mut marks = [0u8; ROWS];
-    let mut p = s * t;
-    while p + p <= n {
-        if n % p == 0 && crate::marks::marks_multiples(positions, n, Period(p)) {
+    let lowest = s * t;
+    for p in (lowest..n / 2 + 1).step_by(s) {
+        if n % p == 0 && marks_multiples(positions, n, Period(p)) {
             marks[p] = 1;
         }
-        p += s;
     }
     marks
 }
 
-// s, T and the full periods of the word. The empty word has no letter, and s and T are 0.
-pub(crate) fn find_path(word: &[u8]) -> ScaledPath
-    requires t { T (of_letters word.now) }
-    requires word_len_bound { length word.now ≤ longest }
+// s, T and the full periods of the word. The empty word has no letter, and s and T are 0, and no `None`: document 01 answers 0.
+pub(crate) fn find_path(word: &Word) -> ScaledPath
     ensures { result ≡ scaled_path word.now }
 {
-    let counts = words::count_letters(word);
-    let g = crate::counts::count_divisor(counts);
+    let n = word.len();
+    let counts = count_letters(word);
+    let g = count_divisor(counts);
     if g == 0 {
         return ScaledPath {
             s: 0,
@@ -89,10 +86,15 @@ pub(crate) fn find_path(word: &[u8]) -> ScaledPath
             marks: [0u8; ROWS],
         };
     }
-    let s = word.len() / (g as usize);
-    let unit = crate::counts::divide(counts, g);
+    let s = n / (g as usize);
+    let unit = divide(counts, g);
     let positions = mark_scaled(word, s, unit);
-    let t = crate::marks::greatest_distance(&positions, word.len(), s) / s;
+    let marked = Marked {
+        marks: &positions,
+        n,
+        step: s,
+    };
+    let t = marked.greatest_distance() / s;
     let marks = mark_full(word, s, t, &positions);
     ScaledPath { s, t, marks }
 }

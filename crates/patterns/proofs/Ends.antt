@@ -1,11 +1,10 @@
 -- Whether a square ends where a beginning ends: by the half lengths one after the other.
 use Prim.Native.Nat.{ℕ, ◌+◌, ◌*◌, ◌-◌, ◌/◌, ◌≤◌, ◌<◌}
-use mathlib.Core.Path.{◌≡◌, sym, ap}
+use mathlib.Core.Path.{◌≡◌, refl, sym, ap}
 use mathlib.Core.Bool.{Bool, true, false, not}
 use mathlib.Core.List.{List}
 use native.Mathlib.Omega.{arith}
-use lib.ListN.{length, drop, get_or}
-use lib.Seq.{get_or-drop}
+use lib.ListN.{length, get_or}
 use lib.Dec.{eqb}
 use Rattle.abelian.specs.Lists.{up_from, all}
 use Rattle.abelian.proofs.Tests.{is_true, is_false, passes, fails}
@@ -38,9 +37,7 @@ module _ (totals : List ℕ) where
       let r : (1 ≤ q) × (q < 1 + (length totals - 1) / 2) = mem-up_from 1 ((length totals - 1) / 2) m in
       passes (apart q) (ap not (h q r.0 (omega arith)))))))
 
--- the totals from a place on, compared where they stand
-pub agree_at : (totals : List ℕ) (at q : ℕ) → eqb (get_or totals at 0 + get_or totals (at + 2 * q) 0) (2 * get_or totals (at + q) 0) ≡ halves_agree (drop at totals) q
+-- the totals of a half, compared
+pub agree_at : (totals : List ℕ) (q : ℕ) → eqb (get_or totals 0 0 + get_or totals (2 * q) 0) (2 * get_or totals q 0) ≡ halves_agree totals q
 unfolding halves_agree
-agree_at totals at q =
-    let e : at + 0 ≡ at = omega arith in
-    rw (get_or-drop at totals 0 0, get_or-drop at totals (2 * q) 0, get_or-drop at totals q 0, e)
+agree_at totals q = refl

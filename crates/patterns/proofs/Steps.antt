@@ -1,13 +1,13 @@
 -- The search letter by letter: the totals with one letter more, the words that were found behind the letters tried, and the bounds of what the code counts.
 use Prim.Native.Nat.{ℕ, zero, suc, ◌+◌, ◌-◌, ◌*◌, ◌^◌, ◌≤◌, ◌<◌}
-use mathlib.Core.Path.{◌≡◌, refl, sym, ap, ap₂, ◌∙◌}
+use mathlib.Core.Path.{◌≡◌, refl, sym, ap, ap₂, subst, ◌∙◌}
 use mathlib.Core.Logic.{⊎_elim}
 use mathlib.Core.Bool.{true, false}
 use mathlib.Core.List.{List, [], ◌∷◌, ◌++◌, append-nil}
 use native.Mathlib.Nat.{mul-suc, mul-le-mul_left, one-le-pow, pow-zero, pow-suc, pow-le-pow_right, eq-or-lt_of_le}
 use native.Mathlib.Omega.{arith}
-use lib.ListN.{length, drop, get_or, set, length-set}
-use lib.Seq.{drop-cons, drop-drop, drop-set-lt, get_or-drop, get_or-set_same, get_or-set_other}
+use lib.ListN.{length, take, drop, get_or, set, length-set, length-drop}
+use lib.Seq.{take_all, drop-cons, drop-drop, drop-set-lt, get_or-drop, get_or-set_same, get_or-set_other}
 use Rattle.abelian.specs.Lists.{pick, up_from, each}
 use Rattle.abelian.specs.Patterns.{largest_alphabet, longest_square_free}
 use Rattle.abelian.proofs.Tests.{picked}
@@ -72,6 +72,18 @@ totals_kept l m left t size kept = record {
       ∙ ap (λ (j : ℕ). get_or m j 0) e in
       omega (arith, t.small i from (omega arith));
 }
+
+-- what a slice from a place on holds
+pub rest_taken : (l : List ℕ) (at : ℕ) → take (length l - at) (drop at l) ≡ drop at l
+rest_taken l at = take_all (length l - at) (drop at l) (omega (arith, length-drop at l))
+
+-- from their place on they are totals by themselves
+pub totals_from : (l : List ℕ) (at : ℕ) → Totals l at → Totals (take (length l - at) (drop at l)) 0
+totals_from l at t = subst (λ (d : List ℕ). Totals d 0) (sym (rest_taken l at)) (record {
+  within = omega (arith, length-drop at l, t.within);
+  short = omega (arith, length-drop at l, t.short);
+  small = λ i from to. omega (arith, length-drop at l, get_or-drop at l i 0, t.within, t.small (at + i) (omega arith) (omega (arith, length-drop at l)));
+})
 
 -- ---- the words behind the letters tried
 

@@ -38,6 +38,11 @@ pub record Numbered (left number at : ℕ) : Type 0 where
   pub digits : number < largest_alphabet ^ (longest_square_free - left)
   pub places : at + largest_alphabet ^ left ≤ largest_alphabet ^ longest_square_free
 
+-- over so many letters, and of so many, the words are searched
+pub record Searched : Type 0 where
+  pub letters : ℕ
+  pub length : ℕ
+
 -- the slice with the words from this place on, one behind the other, as far as it has places
 unfoldable pub stored : ℕ → List ℕ → List ℕ → List ℕ
 stored at [] out = out

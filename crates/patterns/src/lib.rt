@@ -3,77 +3,89 @@
 
 mod search;
 
-ghost use Rattle.std.specs.Prelude.{◌≡◌, ◌≤◌, length};
-ghost use Rattle.abelian.specs.Patterns.{largest_alphabet, longest_square_free, pattern_words};
+ghost use Rattle.std.specs.Prelude.{◌≡◌, length};
+ghost use Rattle.abelian.specs.Patterns.{pattern_words};
 ghost use Rattle.abelian.specs.Refusals.{square_free_refusal};
-ghost use Rattle.abelian.specs.Answers.{outcome_of, answered_wrote, answered_needed};
+ghost use Rattle.abelian.specs.Answers.{accepted_unless, answered_wrote, answered_needed};
 ghost use Rattle.abelian.specs.Calls.{square_free_listing, square_free_count};
 ghost use Rattle.patterns.specs.Search.{stored};
 
-use abelian::{
-    Alphabet, LARGEST_ALPHABET, LONGEST_SQUARE_FREE, Length, Needed, Outcome, Refusal, Wrote,
-};
+use abelian::{Alphabet, LARGEST_ALPHABET, LONGEST_SQUARE_FREE, Length, Refusal};
 use search::search;
+use std::marker::Model;
 
-// Whether a call may take the alphabet and the length: not if the alphabet has no letter or more than the most, and not if the length is above the longest.
-fn check_sizes(alphabet: Alphabet, length: Length) -> Outcome
-    ensures { result ≡ outcome_of (square_free_refusal alphabet.0 length.0 0 0) }
+// An alphabet and a length for which the words may be searched. In contracts they are the two numbers.
+#[derive(Drop)]
+struct Sizes {
+    alphabet: Alphabet,
+    length: Length,
+}
+
+impl Model for Sizes {
+    ghost use Rattle.std.specs.Prelude.{◌≤◌};
+    ghost use Rattle.abelian.specs.Patterns.{largest_alphabet, longest_square_free};
+    ghost use Rattle.patterns.specs.Search.{Searched};
+
+    ghost Value = { Searched };
+
+    ghost view = { λ sizes. record { letters = sizes.alphabet.0; length = sizes.length.0 } };
+
+    ghost invariant = { λ sizes. (sizes.alphabet.0 ≤ largest_alphabet) × (sizes.length.0 ≤ longest_square_free) };
+}
+
+// The alphabet and the length, if a call may take them: not if the alphabet has no letter or more than the most, and not if the length is above the longest.
+fn check_sizes(alphabet: Alphabet, length: Length) -> Result<Sizes, Refusal>
+    ensures { result ≡ accepted_unless (square_free_refusal alphabet.0 length.0 0 0) (record { letters = alphabet.0; length = length.0 }) }
 {
     let k = alphabet.0;
     let n = length.0;
     if k < 1 || LARGEST_ALPHABET < k {
-        return Outcome::Refused(Refusal::SquareFreeAlphabet);
+        return Err(Refusal::SquareFreeAlphabet);
     }
     if LONGEST_SQUARE_FREE < n {
-        return Outcome::Refused(Refusal::SquareFreeLength);
+        return Err(Refusal::SquareFreeLength);
     }
-    Outcome::Accepted
+    Ok(Sizes { alphabet, length })
 }
 
 // Finds all square-free words from the empty beginning on, writes as many as there are places for, and returns their number.
-fn find_all(alphabet: Alphabet, n: Length, out: &mut [u32]) -> usize
-    requires alphabet_le_largest_alphabet { alphabet.0 ≤ largest_alphabet }
-    requires n_le_longest_square_free { n.0 ≤ longest_square_free }
-    ensures value { result ≡ length (pattern_words alphabet.0 n.0) }
-    ensures out_after { out.new ≡ stored 0 (pattern_words alphabet.0 n.0) out.old }
+fn find_all(sizes: &Sizes, out: &mut [u32]) -> usize
+    ensures value { result ≡ length (pattern_words sizes.now.letters sizes.now.length) }
+    ensures out_after { out.new ≡ stored 0 (pattern_words sizes.now.letters sizes.now.length) out.old }
 {
     let mut totals = [0u32; LONGEST_SQUARE_FREE + 1];
-    let to = n.0 + 1;
-    search(alphabet, n, &mut totals[0..to], 0, 0, out)
+    let to = sizes.length.0 + 1;
+    search(sizes.alphabet, sizes.length, &mut totals[0..to], 0, 0, out)
 }
 
 // The number of square-free words: a search that has no places to write to.
-fn number_of_words(alphabet: Alphabet, n: Length) -> usize
-    requires alphabet_le_largest_alphabet { alphabet.0 ≤ largest_alphabet }
-    requires n_le_longest_square_free { n.0 ≤ longest_square_free }
-    ensures { result ≡ length (pattern_words alphabet.0 n.0) }
+fn number_of_words(sizes: &Sizes) -> usize
+    ensures { result ≡ length (pattern_words sizes.now.letters sizes.now.length) }
 {
-    let mut nowhere = [0u32; 0];
-    find_all(alphabet, n, &mut nowhere)
+    find_all(sizes, &mut [])
 }
 
 // Writes the square-free words over so many letters and of this length, in alphabetical order. They are counted first, by a search that writes nothing, so that a list
 // that is too long is refused before the first place is written.
-pub fn list_square_free(alphabet: Alphabet, length: Length, out: &mut [u32]) -> Wrote
+pub fn list_square_free(
+    alphabet: Alphabet,
+    length: Length,
+    out: &mut [u32],
+) -> Result<usize, Refusal>
     ensures { answered_wrote result out.new ≡ square_free_listing alphabet.0 length.0 out.old }
 {
-    if let Outcome::Refused(refusal) = check_sizes(alphabet, length) {
-        return Wrote::Refused(refusal);
-    }
-    let needed = number_of_words(alphabet, length);
+    let sizes = check_sizes(alphabet, length)?;
+    let needed = number_of_words(&sizes);
     if needed > out.len() {
-        return Wrote::Refused(Refusal::SliceTooShort(needed));
+        return Err(Refusal::SliceTooShort(needed));
     }
-    find_all(alphabet, length, out);
-    Wrote::Words(needed)
+    Ok(find_all(&sizes, out))
 }
 
 // How many square-free words over so many letters there are of this length.
-pub fn count_square_free(alphabet: Alphabet, length: Length) -> Needed
+pub fn count_square_free(alphabet: Alphabet, length: Length) -> Result<usize, Refusal>
     ensures { answered_needed result ≡ square_free_count alphabet.0 length.0 }
 {
-    if let Outcome::Refused(refusal) = check_sizes(alphabet, length) {
-        return Needed::Refused(refusal);
-    }
-    Needed::Words(number_of_words(alphabet, length))
+    let sizes = check_sizes(alphabet, length)?;
+    Ok(number_of_words(&sizes))
 }

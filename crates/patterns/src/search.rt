@@ -5,34 +5,29 @@ ghost use Rattle.std.specs.Prelude.{◌≡◌, ◌+◌, ◌≤◌, length, drop,
 ghost use Rattle.abelian.specs.Patterns.{largest_alphabet};
 ghost use Rattle.patterns.specs.Search.{Totals, Numbered, ends_square, found, stored};
 
-use abelian::{Alphabet, Length};
-
-// The kind of a square-free word, above its number.
-const PATTERN: u32 = 9 * 268435456;
+use abelian::{Alphabet, Kind, Length};
 
 // The base of totals. A letter's weight is that of the letter before it times this.
 const BASE: u32 = 32;
 
-// Whether a square ends with the last letter of a beginning: for some half length the last half's total is that of the half before it. The totals of the beginning and
-// of its own beginnings stand from the place `at` on, the longest first.
-fn ends_square(totals: &[u32], at: usize) -> bool
-    requires { Totals totals.now at }
-    ensures { result ≡ ends_square (drop at totals.now) }
+// Whether a square ends with the last letter of a beginning: for some half length the last half's total is that of the half before it. The totals are those of the
+// beginning and of its own beginnings, the longest first.
+fn ends_square(totals: &[u32]) -> bool
+    requires { Totals totals.now 0 }
+    ensures { result ≡ ends_square totals.now }
 {
-    let whole = totals[at];
-    let mut half = 1;
-    while at + 2 * half < totals.len() {
-        let middle = totals[at + half];
-        let front = totals[at + 2 * half];
+    let whole = totals[0];
+    for half in 1..(totals.len() + 1) / 2 {
+        let middle = totals[half];
+        let front = totals[2 * half];
         if whole + front == 2 * middle {
             return true;
         }
-        half += 1;
     }
     false
 }
 
-// Stores the word at the place, where the slice has it.
+// Stores the word at the place, where the slice has it. Windows go by a function of their own, whose contract is over the word's start.
 fn store(out: &mut [u32], at: usize, word: u32)
     ensures { out.new ≡ set out.old at word }
 {
@@ -43,7 +38,8 @@ fn store(out: &mut [u32], at: usize, word: u32)
 
 // Finds the square-free words that go on from a beginning by so many letters, in alphabetical order, and writes them from the place `at` on, as far as there are places.
 // Returns the place behind the last of them. The beginning is given by its totals, which stand from the place that is the number of letters left on, and by its number
-// in base k.
+// in base k. The places before these are written on the way down, so that the totals are no shorter slice.
+// The place is handed on beside the slice and not as a part of it, since it counts on where the slice has no more places.
 pub(crate) fn search(
     alphabet: Alphabet,
     left: Length,
@@ -62,22 +58,19 @@ pub(crate) fn search(
     let k = alphabet.0;
     let last = left.0;
     if last == 0 {
-        store(out, at, PATTERN + number);
+        store(out, at, Kind::Pattern.word() + number);
         return at + 1;
     }
     let next = last - 1;
     let mut to = at;
     let mut weight = 1;
     let base = k as u32;
-    let mut longer = number * base;
-    let mut c = 0;
-    while c < k {
+    let longer = number * base;
+    for c in 0..k {
         totals[next] = totals[last] + weight;
         weight *= BASE;
-        let extended = longer;
-        longer += 1;
-        c += 1;
-        if !ends_square(totals, next) {
+        if !ends_square(&totals[next..]) {
+            let extended = longer + c as u32;
             to = search(alphabet, Length(next), totals, extended, to, out);
         }
     }

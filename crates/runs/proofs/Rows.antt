@@ -3,7 +3,6 @@ use mathlib.Core.Path.{◌≡◌, refl, sym, ap, ◌∙◌}
 use mathlib.Core.Bool.{true, false, not}
 use mathlib.Core.List.{List, [], ◌++◌, map, map-append, append-nil}
 use Prim.Native.Nat.{ℕ, suc, ◌+◌, ◌-◌, ◌*◌, ◌≤◌, ◌<◌}
-use native.Mathlib.Numerals.{add-one}
 use native.Mathlib.Omega.{arith}
 use lib.ListN.{length, length-map}
 use Rattle.abelian.specs.Lists.{up_from, put, keep, each}
@@ -41,23 +40,24 @@ module _ (w : List ℕ) (d : ℕ) where
   words_rise s h =
       omega (arith, ap length (all_starts (suc (length w) - 2 * d) refl), length_up_to s, length_up_to (suc (length w) - 2 * d), keep_rises (starts_run w d) 1 h)
 
-  module _ (s : ℕ) where
-    -- one start more, and whether a run starts there
-    words_next : words_up_to (s + 1) ≡ words_up_to s ++ each (map (run_at w d) (put (starts_run w d (s + 1)) (s + 1) [])) words_of_run
+  module _ (s : ℕ) (positive : 1 ≤ s) where
+    -- start s behind the smaller ones, and whether a run starts there
+    words_next : words_up_to (s + 1 - 1) ≡ words_up_to (s - 1) ++ each (map (run_at w d) (put (starts_run w d s) s [])) words_of_run
     words_next =
-        let e : 1 + s ≡ s + 1 = omega arith in
-        ap words_up_to (add-one s)
-        ∙ ap (λ (is : List ℕ). each (map (run_at w d) is) words_of_run) (rw e at (keep-more (starts_run w d) 1 s))
-        ∙ ap (λ l. each l words_of_run) (map-append (run_at w d) (keep (starts_run w d) (up_from 1 s)) (put (starts_run w d (s + 1)) (s + 1) []))
-        ∙ each_append words_of_run (map (run_at w d) (keep (starts_run w d) (up_from 1 s))) (map (run_at w d) (put (starts_run w d (s + 1)) (s + 1) []))
+        let e : s + 1 - 1 ≡ suc (s - 1) = omega arith in
+        let f : 1 + (s - 1) ≡ s = omega arith in
+        ap words_up_to e
+        ∙ ap (λ (is : List ℕ). each (map (run_at w d) is) words_of_run) (rw f at (keep-more (starts_run w d) 1 (s - 1)))
+        ∙ ap (λ l. each l words_of_run) (map-append (run_at w d) (keep (starts_run w d) (up_from 1 (s - 1))) (put (starts_run w d s) s []))
+        ∙ each_append words_of_run (map (run_at w d) (keep (starts_run w d) (up_from 1 (s - 1)))) (map (run_at w d) (put (starts_run w d s) s []))
 
     -- the words of a run stand behind the others
-    pub words_one_more : starts_run w d (s + 1) ≡ true → words_up_to (s + 1) ≡ words_up_to s ++ words_of_run (run_at w d (s + 1))
-    words_one_more t = (rw t at words_next) ∙ ap (λ l. words_up_to s ++ l) (append-nil (words_of_run (run_at w d (s + 1))))
+    pub words_one_more : starts_run w d s ≡ true → words_up_to (s + 1 - 1) ≡ words_up_to (s - 1) ++ words_of_run (run_at w d s)
+    words_one_more t = (rw t at words_next) ∙ ap (λ l. words_up_to (s - 1) ++ l) (append-nil (words_of_run (run_at w d s)))
 
     -- a start of no run is passed over
-    pub words_no_more : starts_run w d (s + 1) ≡ false → words_up_to (s + 1) ≡ words_up_to s
-    words_no_more t = (rw t at words_next) ∙ append-nil (words_up_to s)
+    pub words_no_more : starts_run w d s ≡ false → words_up_to (s + 1 - 1) ≡ words_up_to (s - 1)
+    words_no_more t = (rw t at words_next) ∙ append-nil (words_up_to (s - 1))
 
 module _ (w : List ℕ) where
   -- ---- all block lengths

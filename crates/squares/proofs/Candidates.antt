@@ -226,6 +226,12 @@ module _ (w : List ℕ) where
       rw (n, p) at (marks-more (suc k) (omega arith) h) in
       omega (arith, ap length more, length-append (each (up_from 1 k) (start_marks w)) (start_marks w (suc k)), length-start_marks (suc k), before, mul-suc k m, suc-mul k m)
 
+  -- so the marks of a half length stand behind these, by its number alone
+  pub marks_place : (q : ℕ) → 1 ≤ q → 2 * q ≤ length w → (q - 1) * (length w + 1 - q) ≡ length (marks_below q)
+  marks_place q positive fits =
+      let e : length w - (q - 1) ≡ length w + 1 - q = omega arith in
+      sym (rw e at (length-marks (q - 1) (omega arith)))
+
   -- no word has more candidates than the longest
   pub candidates_bound : length w ≤ longest → length (square_marks w) ≤ (longest / 2) * (longest / 2)
   unfolding longest

@@ -4,8 +4,9 @@ use mathlib.Core.List.{List, [], ◌∷◌, ◌++◌, map, append-nil}
 use Prim.Native.Nat.{ℕ, zero, suc, ◌+◌, ◌-◌, ◌≤◌, ◌<◌}
 use native.Mathlib.Nat.{add-zero}
 use native.Mathlib.Omega.{arith}
-use lib.ListN.{length, length-append}
+use lib.ListN.{length, take, drop, length-append, length-take, drop_of_length-le}
 use Rattle.abelian.specs.Lists.{up_from, each}
+use Rattle.abelian.specs.Output.{fill}
 use Rattle.abelian.proofs.Lists.{up_from-append, each_append}
 
 -- f of one number more stands behind the others
@@ -14,6 +15,14 @@ map_more f a zero = ap (λ (k : ℕ). f k ∷ []) (sym (add-zero a))
 map_more f a (suc n) =
     let e : suc a + n ≡ a + suc n = omega arith in
     ap (λ (l : List _). f a ∷ l) (rw e at (map_more f (suc a) n))
+
+-- a list that fills the first places whole, and the rest of the slice behind it
+pub fill_part : (ws out xs : List ℕ) (n : ℕ) → length ws ≡ n → xs ≡ fill ws (take n out) → xs ++ drop n out ≡ fill ws out
+unfolding fill
+fill_part ws out xs n e f =
+    let short : length (take n out) ≤ length ws = omega (arith, length-take n out) in
+    let whole : xs ≡ ws = f ∙ ap (λ (l : List ℕ). ws ++ l) (drop_of_length-le (take n out) short) ∙ append-nil ws in
+    rw (whole, e)
 
 -- ---- the numbers up to n, each with a list of its own
 

@@ -1,6 +1,8 @@
 -- Laws of the excess of one vector's counts over another's, modulo 2^8.
-use Rattle.std.proofs.Common.{◌≡◌, ℕ, zero, suc, ◌+◌, ◌-◌, ◌%◌, ◌^◌, ◌<◌, ◌≤◌, Bool, true, false, not, ◌&&◌, eqb, List, [], ◌∷◌, length, get_or, take, set, sym, refl, ap, ◌∙◌, ⊎_elim, mod-eq_of_lt, arith, eq-eqb, ne_eqb, eqb-true}
-use native.Mathlib.Nat.{mod-add-mod, add-mod_right, mod-eq-sub-mod}
+use Rattle.std.proofs.Common.{cond, count_by, ◌≡◌, ℕ, zero, suc, ◌+◌, ◌-◌, ◌%◌, ◌^◌, ◌<◌, ◌≤◌, Bool, true, false, not, ◌&&◌, eqb, List, [], ◌∷◌, length, get_or, set, sym, refl, ap, ◌∙◌, ⊎_elim, mod-eq_of_lt, arith, eq-eqb, ne_eqb, eqb-true}
+use mir.Val.{bool_byte}
+use Rattle.std.proofs.lemmas.List.Recursion.{is_count_by}
+use native.Mathlib.Nat.{mod-add-mod, add-mod_right}
 use borrow.Author.Tests.{eqb-false}
 use Rattle.abelian.specs.Lists.{one, same}
 use Rattle.abelian.proofs.Tests.{decided}
@@ -22,20 +24,10 @@ module _ (a b : ℕ) where
       let e : 2 ^ 8 + a - b + 255 ≡ 2 ^ 8 + (a - 1) - b + 2 ^ 8 = omega arith in
       mod-add-mod (2 ^ 8 + a - b) (2 ^ 8) 255 ∙ ap (λ (k : ℕ). k % 2 ^ 8) e ∙ add-mod_right (2 ^ 8 + (a - 1) - b) (2 ^ 8)
 
-  -- what b added to, modulo 2^8, gives a
-  pub wrapped_excess : {r : ℕ} → r < 2 ^ 8 → b < 2 ^ 8 → (r + b) % 2 ^ 8 ≡ a → r ≡ excess_of a b
+  -- as a machine takes b away
+  pub wrapped_excess : b ≤ 2 ^ 8 → (a + (2 ^ 8 - b)) % 2 ^ 8 ≡ excess_of a b
   unfolding excess_of
-  wrapped_excess {r} l m e =
-      ⊎_elim
-      (λ (h : r + b < 2 ^ 8).
-      let q : r + b ≡ a = sym (mod-eq_of_lt h) ∙ e in
-      let s : 2 ^ 8 + a - b ≡ r + 2 ^ 8 = omega arith in
-      sym (ap (λ (k : ℕ). k % 2 ^ 8) s ∙ add-mod_right r (2 ^ 8) ∙ mod-eq_of_lt l))
-      (λ (h : 2 ^ 8 ≤ r + b).
-      let q : r + b - 2 ^ 8 ≡ a = sym (mod-eq_of_lt (omega arith)) ∙ sym (mod-eq-sub-mod h) ∙ e in
-      let s : 2 ^ 8 + a - b ≡ r = omega arith in
-      sym (ap (λ (k : ℕ). k % 2 ^ 8) s ∙ mod-eq_of_lt l))
-      (below_or_not (r + b) (2 ^ 8))
+  wrapped_excess h = ap (λ (k : ℕ). k % 2 ^ 8) (omega arith)
 
   -- counts of 8 bits exceed each other by 0 exactly where they are equal
   pub zero_excess : a < 2 ^ 8 → b < 2 ^ 8 → eqb (excess_of a b) 0 ≡ eqb a b
@@ -83,12 +75,19 @@ pub zero_or_not : (b : Bool) → one b + one (not b) ≡ 1
 zero_or_not true = refl
 zero_or_not false = refl
 
--- one number more
-pub nonzero-more : (u : List ℕ) (j : ℕ) → j < length u → nonzero (take (suc j) u) ≡ nonzero (take j u) + one (not (eqb (get_or u j 0) 0))
+-- the same, where the code adds the flag
+pub flag_or_not : (b : Bool) → bool_byte b + one (not b) ≡ 1
+flag_or_not true = refl
+flag_or_not false = refl
+
+-- as many as pass the test
+pub nonzero_counted : (u : List ℕ) → nonzero u ≡ count_by (λ (x : ℕ). not (eqb x 0)) u
 unfolding nonzero
-nonzero-more [] j l = absurd (omega arith)
-nonzero-more (a ∷ u) zero l = omega arith
-nonzero-more (a ∷ u) (suc j) l = omega (arith, nonzero-more u j (omega arith))
+nonzero_counted u = is_count_by nonzero (λ (x : ℕ). not (eqb x 0)) refl (λ x xs. go (eqb x 0) (nonzero xs)) u
+  where
+    go : (b : Bool) (n : ℕ) → one (not b) + n ≡ cond (not b) (1 + n) n
+    go true n = omega arith
+    go false n = refl
 
 -- no more than there are
 pub nonzero-le : (u : List ℕ) → nonzero u ≤ length u

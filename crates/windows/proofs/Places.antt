@@ -1,11 +1,11 @@
 -- Laws of a slice to which as many words are written as it has places for.
-use Rattle.std.proofs.Common.{◌≡◌, ℕ, ◌+◌, ◌<◌, ◌≤◌, Bool, true, false, List, [], ◌∷◌, ◌++◌, length, take, set, sym, refl, ap, ◌∙◌, ⊎_elim, append-nil, arith, length-append, length-take, take_all}
+use Rattle.std.proofs.Common.{◌≡◌, ℕ, ◌+◌, ◌<◌, ◌≤◌, Bool, true, false, List, [], ◌∷◌, ◌++◌, length, take, drop, set, sym, refl, ap, ap₂, ◌∙◌, ⊎_elim, append-nil, arith, length-append, length-take, take_all}
 use lib.Seq.{take-append-le, set_out}
 use Rattle.abelian.specs.Lists.{pick, one}
 use Rattle.abelian.specs.Output.{window_word, fill}
 use Rattle.abelian.specs.Windows.{is_window}
 use Rattle.abelian.proofs.Lists.{below_or_not}
-use Rattle.words.proofs.Lists.{length-fill, fill_more}
+use Rattle.words.proofs.Lists.{length-fill, take-fill, fill_more}
 use Rattle.windows.specs.Sliding.{first_words, fill_places, noted}
 use Rattle.windows.proofs.Windows.{words_more}
 
@@ -39,6 +39,15 @@ module _ (ws out : List ℕ) where
   unfolding noted
   noted_more true start = one_more_lem (window_word start)
   noted_more false start = ap (λ (l : List ℕ). fill_places l out) (sym (append-nil ws))
+
+-- the words that were kept are all words, where there are no more of them than places
+pub kept_words : (ws first : List ℕ) {after : List ℕ} {needed : ℕ} → needed ≡ length ws → after ≡ fill_places ws first → needed ≤ length first → take needed after ≡ ws
+kept_words ws first n e h = ap₂ take n (e ∙ fill_places-all ws first (omega arith)) ∙ take-fill ws first
+
+-- a copy of them in front of the rest of a slice fills its first places
+pub copied_words : (ws out : List ℕ) {copy : List ℕ} {needed : ℕ} → needed ≡ length ws → copy ≡ ws → copy ++ drop needed out ≡ fill ws out
+unfolding fill
+copied_words ws out n e = ap₂ (λ (u : List ℕ) (k : ℕ). u ++ drop k out) e n
 
 -- no word: the slice as it came
 pub fill_places-none : (out : List ℕ) → out ≡ fill_places [] out

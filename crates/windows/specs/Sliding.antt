@@ -5,6 +5,11 @@ use Rattle.abelian.specs.Words.{longest, of_letters}
 use Rattle.abelian.specs.Output.{window_word, fill}
 use Rattle.abelian.specs.Windows.{longest_record, is_window}
 
+-- a pattern, and the record in which its windows are looked for
+pub record Sought : Type 0 where
+  pub pattern : List ℕ
+  pub events : List ℕ
+
 -- A pattern and a record that may be taken.
 pub record Readable (pattern events : List ℕ) : Type 0 where
   pub word : T (of_letters pattern)

@@ -5,103 +5,109 @@
 
 mod sliding;
 
-ghost use Rattle.std.specs.Prelude.{◌≡◌, ◌≤◌, length};
-ghost use Rattle.std.proofs.Math.Option.{none};
-ghost use Rattle.abelian.specs.Output.{fill};
+ghost use Rattle.std.specs.Prelude.{◌≡◌, length};
 ghost use Rattle.abelian.specs.Windows.{window_words};
 ghost use Rattle.abelian.specs.Refusals.{window_refusal};
-ghost use Rattle.abelian.specs.Answers.{outcome_of, answered_wrote, answered_needed};
+ghost use Rattle.abelian.specs.Answers.{accepted_unless, answered_wrote, answered_needed};
 ghost use Rattle.abelian.specs.Calls.{window_listing, window_count};
 ghost use Rattle.windows.specs.Sliding.{Readable};
 
-use abelian::{LONGEST_RECORD, Needed, Outcome, Refusal, Wrote};
+use abelian::{LONGEST_RECORD, Refusal};
 use sliding::slide;
+use std::marker::Model;
+use words::{Word, all_letters, check_word, first_outside};
 
 // How many words of a list are kept while it is counted.
 const FIRST_WORDS: usize = 2048;
 
-// Whether a call may take the pattern and the record: the pattern as a word, which may not be empty, then the record's length, then its letters.
-// A position is looked for only where there is one.
-fn check_both(pattern: &[u8], record: &[u8]) -> Outcome
-    ensures { result ≡ outcome_of (window_refusal pattern.now «record».now 0 0) }
-{
-    if let Outcome::Refused(refusal) = words::check_word(pattern) {
-        return Outcome::Refused(refusal);
+// A pattern and a record in which its windows may be looked for: the pattern is a word of one letter or more, and the record is of letters alone and not above the
+// longest. In contracts it is the letters of both.
+#[derive(Drop)]
+pub(crate) struct Search<'a> {
+    pattern: Word<'a>,
+    events: &'a [u8],
+}
+
+impl<'a> Model for Search<'a> {
+    ghost use Rattle.windows.specs.Sliding.{Sought, Readable};
+
+    ghost Value = { Sought };
+
+    ghost view = { λ search. record { pattern = search.pattern; events = search.events.now } };
+
+    ghost invariant = { λ search. Readable search.pattern search.events.now };
+}
+
+impl<'a> Search<'a> {
+    fn new(pattern: Word<'a>, events: &'a [u8]) -> Search<'a>
+        requires { Readable pattern events.now }
+        ensures { result ≡ record { pattern = pattern.entry; events = events.now } }
+    {
+        Search { pattern, events }
     }
+}
+
+// The pattern and the record, if a call may take them: the pattern as a word, which may not be empty, then the record's length, then its letters.
+// A position is looked for only where there is one.
+fn check_both<'a>(pattern: &'a [u8], record: &'a [u8]) -> Result<Search<'a>, Refusal>
+    ensures { result ≡ accepted_unless (window_refusal pattern.now «record».now 0 0) (record { pattern = pattern.now; events = «record».now }) }
+{
+    let pattern = check_word(pattern)?;
     if pattern.len() == 0 {
-        return Outcome::Refused(Refusal::PatternEmpty);
+        return Err(Refusal::PatternEmpty);
     }
     if record.len() > LONGEST_RECORD {
-        return Outcome::Refused(Refusal::RecordTooLong);
+        return Err(Refusal::RecordTooLong);
     }
-    if words::all_letters(record) {
-        return Outcome::Accepted;
+    if !all_letters(record) {
+        if let Some(position) = first_outside(record) {
+            return Err(Refusal::NotALetter(position));
+        }
     }
-    let position = words::first_outside(record);
-    Outcome::Refused(Refusal::NotALetter(position))
+    Ok(Search::new(pattern, record))
 }
 
-// Copies the words to the first places of the slice.
-fn copy_words(words: &[u32], out: &mut [u32])
-    requires { length words.now ≤ length out.old }
-    ensures { out.new ≡ fill words.now out.old }
+// The number of windows: one that slides over the record with no places to write to.
+fn number_of_windows(search: &Search) -> usize
+    ensures { result ≡ length (window_words search.now.pattern search.now.events) }
 {
-    let mut i = 0;
-    while i < words.len() {
-        out[i] = words[i];
-        i += 1;
-    }
-}
-
-// The number of windows of a pattern in a record that may be taken: a window that slides over the record with no places to write to.
-fn number_of_windows(pattern: &[u8], record: &[u8]) -> usize
-    requires { Readable pattern.now «record».now }
-    ensures { result ≡ length (window_words pattern.now «record».now) }
-{
-    let mut nowhere = [0u32; 0];
-    slide(pattern, record, &mut nowhere)
+    slide(search, &mut [])
 }
 
 // Writes the list to a slice that may be too short for it. The first words are found with their number, so that the window slides a second time only where there
 // are more of them.
-fn list_counted(pattern: &[u8], record: &[u8], out: &mut [u32]) -> Wrote
-    requires { window_refusal pattern.now «record».now 0 0 ≡ none }
-    ensures { answered_wrote result out.new ≡ window_listing pattern.now «record».now out.old }
+fn list_counted(search: &Search, out: &mut [u32]) -> Result<usize, Refusal>
+    ensures { answered_wrote result out.new ≡ window_listing search.now.pattern search.now.events out.old }
 {
     let mut first = [0u32; FIRST_WORDS];
-    let needed = slide(pattern, record, &mut first);
+    let needed = slide(search, &mut first);
     if out.len() < needed {
-        return Wrote::Refused(Refusal::SliceTooShort(needed));
+        return Err(Refusal::SliceTooShort(needed));
     }
     if needed <= FIRST_WORDS {
-        copy_words(&first[..needed], out);
+        out[..needed].copy_from_slice(&first[..needed]);
     } else {
-        slide(pattern, record, out);
+        slide(search, out);
     }
-    Wrote::Words(needed)
+    Ok(needed)
 }
 
 // Writes the starts, ascending, at which a window of the record as long as the pattern has the pattern's vector. A record has no more windows than events, so that
 // they are counted only for a slice with fewer places.
-pub fn list_windows(pattern: &[u8], record: &[u8], out: &mut [u32]) -> Wrote
+pub fn list_windows(pattern: &[u8], record: &[u8], out: &mut [u32]) -> Result<usize, Refusal>
     ensures { answered_wrote result out.new ≡ window_listing pattern.now «record».now out.old }
 {
-    if let Outcome::Refused(refusal) = check_both(pattern, record) {
-        return Wrote::Refused(refusal);
-    }
+    let search = check_both(pattern, record)?;
     if out.len() < record.len() {
-        return list_counted(pattern, record, out);
+        return list_counted(&search, out);
     }
-    let written = slide(pattern, record, out);
-    Wrote::Words(written)
+    Ok(slide(&search, out))
 }
 
 // How many windows of the record as long as the pattern have the pattern's vector.
-pub fn count_windows(pattern: &[u8], record: &[u8]) -> Needed
+pub fn count_windows(pattern: &[u8], record: &[u8]) -> Result<usize, Refusal>
     ensures { answered_needed result ≡ window_count pattern.now «record».now }
 {
-    if let Outcome::Refused(refusal) = check_both(pattern, record) {
-        return Needed::Refused(refusal);
-    }
-    Needed::Words(number_of_windows(pattern, record))
+    let search = check_both(pattern, record)?;
+    Ok(number_of_windows(&search))
 }
