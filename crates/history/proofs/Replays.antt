@@ -5,18 +5,19 @@ use mathlib.Core.Bool.{Bool, true, false}
 use mathlib.Core.List.{List, [], ◌∷◌, ◌++◌, map, map-append}
 use Prim.Native.Nat.{ℕ, suc, ◌+◌, ◌≤◌, ◌<◌}
 use native.Mathlib.Omega.{arith}
+use mir.Val.{bool_byte}
 use lib.ListN.{length, take, get_or, length-map, length-take}
 use lib.Seq.{take-suc, take-length}
 use lib.Dec.{ltb}
 use borrow.Author.Tests.{lt-ltb, eq-eqb, ne_eqb}
+use Rattle.std.specs.Prelude.{Result, Ok, Err}
+use Rattle.std.specs.Result.{is_err}
 use Rattle.abelian.specs.Lists.{one}
 use Rattle.abelian.specs.Refusals.{first_holding, number_of}
 use Rattle.abelian.specs.Answers.{Answer, answered_outcome}
 use Rattle.abelian.specs.Calls.{period_words}
-use Rattle.abelian.specs.Trackers.{Step, adding, taking_back, clearing, tracker_listing}
+use Rattle.abelian.specs.Trackers.{Step, tracker_listing}
 use Rattle.abelian.specs.declared.Refusal.{Refusal}
-use Rattle.abelian.specs.declared.Outcome.{Outcome}
-use Rattle.abelian.specs.declared.Outcome.TheVariants.{Refused}
 use Rattle.abelian.specs.declared.Tracker.{Tracker}
 use Rattle.abelian.proofs.Tests.{decided}
 use Rattle.abelian.proofs.Refusals.{refusal_number}
@@ -29,31 +30,33 @@ use Rattle.history.proofs.History.{word_of_lem}
 
 -- ---- the call of a byte
 
-module _ (t : Tracker) (b : ℕ) where
-  pub takes_back : b ≡ 45 → step t (call_of b) ≡ taking_back t
-  unfolding step call_of
+module _ (b : ℕ) where
+  pub takes_back : b ≡ 45 → Call.take_back ≡ call_of b
+  unfolding call_of
   takes_back e = rw (eq-eqb b 45 e)
 
-  pub clears : b ≢ 45 → b ≡ 33 → step t (call_of b) ≡ clearing t
-  unfolding step call_of
-  clears n e = rw (ne_eqb b 45 n, eq-eqb b 33 e)
+  pub clears : b ≡ 33 → Call.clear ≡ call_of b
+  unfolding call_of
+  clears e = rw (ne_eqb b 45 (λ f. omega arith), eq-eqb b 33 e)
 
-  pub adds : b ≢ 45 → b ≢ 33 → step t (call_of b) ≡ adding t b
-  unfolding step call_of
+  pub adds : b ≢ 45 → b ≢ 33 → Call.add b ≡ call_of b
+  unfolding call_of
   adds n m = rw (ne_eqb b 45 n, ne_eqb b 33 m)
 
 -- ---- refusals
 
--- the number of a refusal is not 0
-pub refused_counts : (o : Outcome) (r : Refusal) → o ≡ Refused r → one (ltb 0 (answered_outcome o).number) ≡ 1
-refused_counts o r e = ap (λ (q : Outcome). one (ltb 0 (answered_outcome q).number)) e ∙ ap one (lt-ltb 0 (number_of r) (refusal_number r))
+-- an outcome counts where it is a refusal, whose number is not 0
+pub refused_counts : (o : Result Unit Refusal) (b : Bool) → b ≡ is_err o → bool_byte b ≡ one (ltb 0 (answered_outcome o).number)
+refused_counts (Ok _) b e = ap bool_byte e
+refused_counts (Err r) b e = ap bool_byte e ∙ ap one (sym (lt-ltb 0 (number_of r) (refusal_number r)))
+
+pub counted-le : (b : Bool) → bool_byte b ≤ 1
+counted-le true = omega arith
+counted-le false = omega arith
 
 one-le : (b : Bool) → one b ≤ 1
 one-le true = omega arith
 one-le false = omega arith
-
-pub at_most_one : (o : Outcome) (n : ℕ) → n ≡ one (ltb 0 (answered_outcome o).number) → n ≤ 1
-at_most_one o n e = omega (arith, one-le (ltb 0 (answered_outcome o).number))
 
 -- no more calls are refused than are made
 refusals-le : (w : List ℕ) (cs : List Call) → refusals (machine_answers w cs) ≤ length cs

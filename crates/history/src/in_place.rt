@@ -1,80 +1,71 @@
-// A replay in place: the calls that the bytes of a log stand for, made on the fields of a tracker that the caller lends, and then one list.
-ghost use Rattle.std.specs.Prelude.{◌≡◌, ltb};
-ghost use Rattle.abelian.specs.Lists.{one};
+// A replay in place: the calls that the bytes of a log stand for, made on a tracker that the caller lends, and then one list.
+ghost use Rattle.std.specs.Prelude.{◌≡◌};
 ghost use Rattle.abelian.specs.Answers.{answered_outcome, answered_wrote};
-ghost use Rattle.tracker.specs.Fields.{of_fields, as_step};
+ghost use Rattle.tracker.specs.Fields.{as_step};
+ghost use Rattle.tracker.specs.Lent.{lent, SameFields};
 ghost use Rattle.history.specs.Calls.{step};
+ghost use Rattle.history.specs.Made.{made};
 ghost use Rattle.history.specs.Replay.{call_of, as_replay, replaying};
 
-use abelian::{BOARD, LONGEST, Outcome, Wrote};
-use tracker::in_place::{add, clear, list, take_back};
+use abelian::Refusal;
+use tracker::in_place::{Fields, list};
 
-// The byte of a log that takes back: `-`.
-const TAKE_BACK: u8 = 45;
+// A call that a byte of a log stands for.
+#[derive(Clone, Copy, PartialEq, Eq)]
+enum Call {
+    Add(u8),
+    TakeBack,
+    Clear,
+}
 
-// The byte of a log that clears: `!`.
-const CLEAR: u8 = 33;
+impl From<u8> for Call {
+    ghost from_gives = { λ byte call. made call ≡ call_of byte };
+
+    // `-` takes back, `!` clears, and any other byte is added.
+    #[tactic(auto, unfolding(crate::specs::Replay::call_of))]
+    fn from(byte: u8) -> Call {
+        match byte {
+            b'-' => Call::TakeBack,
+            b'!' => Call::Clear,
+            _ => Call::Add(byte),
+        }
+    }
+}
+
+impl Call {
+    // Makes the call on the tracker that is lent.
+    #[tactic(auto, unfolding(crate::specs::Calls::step))]
+    fn make(self, fields: &mut Fields) -> Result<(), Refusal>
+        ensures same { SameFields fields.old fields.new }
+        ensures step { as_step (lent fields.new) (answered_outcome result) ≡ step (lent fields.old) (made self) }
+    {
+        match self {
+            Call::Add(letter) => fields.add(letter),
+            Call::TakeBack => fields.take_back(),
+            Call::Clear => fields.clear(),
+        }
+    }
+}
 
 // What a replay answers: how many of its calls were refused, and what the list answered.
-#[derive(Drop)]
+#[derive(Clone, Copy, PartialEq, Eq)]
 pub struct ReplayAnswer {
     pub refused: usize,
-    pub wrote: Wrote,
-}
-
-// Makes the call that the byte stands for: a take-back, a clear, or an add of the byte.
-fn call(
-    byte: u8,
-    len: &mut usize,
-    bytes: &mut [u8; LONGEST],
-    board: &mut [u8; BOARD],
-    live: &mut usize,
-    ended: &mut usize,
-) -> Outcome
-    ensures { as_step (of_fields len.new bytes.new board.new live.new ended.new) (answered_outcome result)
-        ≡ step (of_fields len.old bytes.old board.old live.old ended.old) (call_of byte) }
-{
-    if byte == TAKE_BACK {
-        return take_back(len, bytes, board, live, ended);
-    }
-    if byte == CLEAR {
-        return clear(len, bytes, board, live, ended);
-    }
-    add(len, bytes, board, live, ended, byte)
-}
-
-// 1 for a refusal, and 0 for acceptance.
-fn refused_calls(outcome: Outcome) -> usize
-    ensures { result ≡ one (ltb 0 (answered_outcome outcome).number) }
-{
-    match outcome {
-        Outcome::Accepted => 0,
-        Outcome::Refused(_) => 1,
-    }
+    pub wrote: Result<usize, Refusal>,
 }
 
 // Reads a log of calls: the lent tracker is made fresh, whatever it was, then the calls that the bytes stand for are made on it, and then one list into
 // the slice. All of it is what the machine gives for these calls; a list that is refused leaves the tracker as the calls have left it.
-pub fn replay(
-    calls: &[u8],
-    out: &mut [u32],
-    len: &mut usize,
-    bytes: &mut [u8; LONGEST],
-    board: &mut [u8; BOARD],
-    live: &mut usize,
-    ended: &mut usize,
-) -> ReplayAnswer
-    ensures { as_replay (of_fields len.new bytes.new board.new live.new ended.new) result.refused (answered_wrote result.wrote out.new)
-        ≡ replaying calls.now out.old }
+pub fn replay(calls: &[u8], out: &mut [u32], fields: &mut Fields) -> ReplayAnswer
+    ensures same { SameFields fields.old fields.new }
+    ensures replayed { as_replay (lent fields.new) result.refused (answered_wrote result.wrote out.new) ≡ replaying calls.now out.old }
 {
-    clear(len, bytes, board, live, ended);
+    let _ = fields.clear();
     let mut refused = 0;
-    let mut i = 0;
-    while i < calls.len() {
-        let outcome = call(calls[i], len, bytes, board, live, ended);
-        refused += refused_calls(outcome);
-        i += 1;
+    for byte in calls {
+        let outcome = Call::from(*byte).make(fields);
+        refused += outcome.is_err() as usize;
     }
-    let wrote = list(*len, bytes, board, out);
+    let wrote = list(*fields.len, fields.bytes, fields.board, out);
     ReplayAnswer { refused, wrote }
 }

@@ -8,14 +8,16 @@ ghost use Rattle.std.specs.Prelude.{◌≡◌};
 ghost use Rattle.history.specs.Replay.{replaying};
 ghost use Rattle.history.specs.Replayed.{replay_of};
 
-use abelian::{BOARD, LONGEST, Tracker, Wrote};
+use abelian::{Refusal, Tracker};
+use tracker::fresh;
+use tracker::in_place::Fields;
 
-// The tracker after a replay, how many of its calls were refused, and what the list answered.
+// The tracker after a replay, and beside it the numbers of the answer in place, which callers read by name.
 #[derive(Drop)]
 pub struct Replayed {
     pub tracker: Tracker,
     pub refused: usize,
-    pub wrote: Wrote,
+    pub wrote: Result<usize, Refusal>,
 }
 
 // Reads a log of calls: from a fresh tracker the calls that its bytes stand for, and then one list into the slice. All of it is what the
@@ -23,25 +25,18 @@ pub struct Replayed {
 pub fn replay(calls: &[u8], out: &mut [u32]) -> Replayed
     ensures { replay_of result out.new ≡ replaying calls.now out.old }
 {
-    let mut len = 0;
-    let mut bytes = [0; LONGEST];
-    let mut board = [0; BOARD];
-    let mut live = 0;
-    let mut ended = 0;
-    let answer = in_place::replay(
-        calls, out, &mut len, &mut bytes, &mut board, &mut live, &mut ended,
-    );
-    let tracker = Tracker {
-        len,
-        bytes,
-        board,
-        live,
-        ended,
+    let mut tracker = fresh();
+    let mut fields = Fields {
+        len: &mut tracker.len,
+        bytes: &mut tracker.bytes,
+        board: &mut tracker.board,
+        live: &mut tracker.live,
+        ended: &mut tracker.ended,
     };
-    let wrote = answer.wrote;
+    let answer = in_place::replay(calls, out, &mut fields);
     Replayed {
         tracker,
         refused: answer.refused,
-        wrote,
+        wrote: answer.wrote,
     }
 }

@@ -2,9 +2,11 @@
 use mathlib.Core.Path.{◌≡◌, refl, sym, ap, ◌∙◌}
 use mathlib.Core.Option.{none}
 use mathlib.Core.List.{List}
-use Prim.Native.Nat.{ℕ, ◌%◌, ◌^◌, ◌≤◌, ◌<◌}
+use Prim.Native.Nat.{ℕ, zero, suc, ◌%◌, ◌^◌, ◌≤◌, ◌<◌}
 use native.Mathlib.Omega.{arith}
 use lib.ListN.{length, get_or}
+use Rattle.std.specs.Option.{unwrap_or}
+use Rattle.abelian.specs.Lists.{nonzero}
 use Rattle.abelian.specs.Words.{longest}
 use Rattle.abelian.specs.Covers.{cover_length}
 use Rattle.abelian.specs.Output.{report_head, fill}
@@ -37,3 +39,14 @@ head_answers w out reported room =
     let e = reported_word w reported in
     ap (λ (a : Answer). get_or a.output 0 0 % 2 ^ 14) (sym (report_written w reported out (length (report_words w)) refl room))
     ∙ head_lower w (accepted_length w e) ∙ sym (answer_cover w e)
+
+-- ---- for the function that makes the head
+
+-- 0 where there is no cover
+pub unwrapped : (k : ℕ) → unwrap_or (nonzero k) 0 ≡ k
+unwrapped zero = refl
+unwrapped (suc k) = refl
+
+-- a cover is no longer than the longest word
+pub cover_fits : (w : List ℕ) → length w ≤ longest → cover_length w ≤ longest
+cover_fits w short = omega (arith, cover_length-le-length w)

@@ -4,3 +4,4 @@ pub mod Refusals
 pub mod Lengths
 pub mod Heads
 pub mod Lending
+pub mod PartByPart

@@ -11,12 +11,13 @@ use borrow.Author.Tests.{le-leb, lt-leb}
 use Rattle.abelian.specs.Words.{longest, of_letters, all_equal, one_letter}
 use Rattle.abelian.specs.Refusals.{Condition, condition, first_holding, above_longest, byte_outside, too_few_places, word_conditions, word_refusal, report_refusal}
 use Rattle.abelian.specs.Output.{fill}
-use Rattle.abelian.specs.Answers.{refusing, writing, counting}
+use Rattle.std.specs.Prelude.{Result, Ok, Err}
+use Rattle.abelian.specs.Answers.{refusing, writing, counting, accepted_unless}
 use Rattle.abelian.specs.Calls.{listing, report_words, reporting, report_count}
 use Rattle.abelian.specs.declared.Refusal.{Refusal}
 use Rattle.abelian.specs.declared.Refusal.TheVariants.{SliceTooShort, OneLetter}
 use Rattle.abelian.proofs.Refusals.{none_holds, holding_first, holding_behind}
-use Rattle.words.proofs.Refusals.{accepted_letters, accepted_length}
+use Rattle.words.proofs.Refusals.{accepted_none, accepted_given, refused_some, accepted_letters, accepted_length}
 use Rattle.words.proofs.Listings.{counted_short, counted_written}
 
 -- ---- the refusal of each word
@@ -116,3 +117,25 @@ module _ (w : List ℕ) where
     pub report_counted : (k : ℕ) → k ≡ length (report_words w) → counting k ≡ report_count w
     unfolding report_count
     report_counted k n = rw (accepted, n)
+
+-- ---- by what `check_reported` has answered
+
+module _ (w : List ℕ) {o : Result (List ℕ) Refusal} (checked : o ≡ accepted_unless (report_refusal w 0 0) w) where
+  -- the word is refused: so is the report, with the slice as it came, and so is the count
+  module _ {r : Refusal} (e : o ≡ Err r) where
+    refused : report_refusal w 0 0 ≡ some r
+    refused = refused_some (report_refusal w 0 0) r w (sym checked ∙ e)
+
+    pub refused_report : (out : List ℕ) → refusing r out ≡ reporting w out
+    refused_report out = sym (report_refused w refused out)
+
+    pub refused_count : refusing r [] ≡ report_count w
+    refused_count = sym (count_refused w refused)
+
+  -- the word is accepted: it is handed back, and is to be reported
+  module _ {given : List ℕ} (e : o ≡ Ok given) where
+    pub given_word : given ≡ w
+    given_word = sym (accepted_given (report_refusal w 0 0) w (sym checked ∙ e))
+
+    pub reported : report_refusal w 0 0 ≡ none
+    reported = accepted_none (report_refusal w 0 0) w (sym checked ∙ e)

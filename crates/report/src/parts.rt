@@ -1,39 +1,32 @@
 // The parts of a report, counted and written.
-ghost use Rattle.std.specs.Prelude.{◌≡◌, ◌≤◌, T, length};
-ghost use Rattle.abelian.specs.Words.{longest, of_letters};
+ghost use Rattle.std.specs.Prelude.{◌≡◌, ◌≤◌, length};
 ghost use Rattle.abelian.specs.Covers.{cover_length};
 ghost use Rattle.abelian.specs.Output.{report_head, fill};
 ghost use Rattle.abelian.specs.Calls.{report_words};
 
-use crate::answers::{listed_words, scaled_words, wrote_words};
+use abelian::{Kind, output_word};
 use covers::cover_length;
 use full_periods::{list_full_scaled, number_of_full_periods};
 use listers::candidates::number_of_periods;
 use listers::list_skipping;
 use squares::{list_squares, number_of_squares};
+use words::Word;
 
-// The kind of a report's head, above the other parts of its output word.
-const HEAD: u32 = 8 * 268435456;
-
-// What one of the upper part counts.
-const UPPER: u32 = 16384;
-
-// The report's head: n above, and below the cover length, or 0 where there is none.
-fn head_word(word: &[u8]) -> u32
-    requires t { T (of_letters word.now) }
-    requires word_len_bound { length word.now ≤ longest }
+// The report's head: n above, and below the cover length, or 0 where there is none, as the output word has it.
+#[tactic(auto, using(crate::proofs::Heads::unwrapped, crate::proofs::Heads::cover_fits), unfolding(abelian::specs::Output::report_head))]
+fn head_word(word: &Word) -> u32
     ensures { result ≡ report_head (length word.now) (cover_length word.now) }
 {
-    let cover = cover_length(word) as u32;
-    HEAD + (word.len() as u32) * UPPER + cover
+    let cover = cover_length(word).unwrap_or(0);
+    output_word(Kind::Report, word.len(), cover)
 }
 
 // The number of words of the report.
-pub(crate) fn words_needed(word: &[u8]) -> usize
-    requires t { T (of_letters word.now) }
-    requires word_len_bound { length word.now ≤ longest }
+pub(crate) fn words_needed(word: &Word) -> usize
     ensures { result ≡ length (report_words word.now) }
 {
+    // It is at most the longest, so that the sum fits.
+    let _ = word.len();
     let full = number_of_full_periods(word);
     let periods = number_of_periods(word);
     let squares = number_of_squares(word);
@@ -44,16 +37,18 @@ pub(crate) fn words_needed(word: &[u8]) -> usize
 // remaining part is lent to each lister in turn. It stays a function by itself: written out inside the report, it would have the skipping lister's board
 // on the stack while the report is counted.
 #[inline(never)]
-pub(crate) fn write_parts(word: &[u8], out: &mut [u32]) -> usize
-    requires t { T (of_letters word.now) }
-    requires word_len_bound { length word.now ≤ longest }
-    requires word_in_bounds { length (report_words word.now) ≤ length out.old }
+pub(crate) fn write_parts(word: &Word, out: &mut [u32]) -> usize
+    requires { length (report_words word.now) ≤ length out.old }
     ensures value { result ≡ length (report_words word.now) }
     ensures out_after { out.new ≡ fill (report_words word.now) out.old }
 {
+    let letters = word.letters();
     out[0] = head_word(word);
     let full_at = 1;
-    let periods_at = full_at + scaled_words(list_full_scaled(word, &mut out[full_at..]));
-    let squares_at = periods_at + listed_words(list_skipping(word, &mut out[periods_at..]));
-    squares_at + wrote_words(list_squares(word, &mut out[squares_at..]))
+    let full = list_full_scaled(letters, &mut out[full_at..]).unwrap();
+    let periods_at = full_at + full.words;
+    let periods = list_skipping(letters, &mut out[periods_at..]).unwrap();
+    let squares_at = periods_at + periods.words;
+    let squares = list_squares(letters, &mut out[squares_at..]).unwrap();
+    squares_at + squares
 }

@@ -1,3 +1,2 @@
 pub mod Damage
-pub mod FirstMapped
 pub mod Steps

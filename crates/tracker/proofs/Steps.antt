@@ -1,5 +1,5 @@
 -- Laws of the steps: what each call leaves, for each of its refusals and where it is accepted.
-use mathlib.Core.Path.{◌≡◌, refl}
+use mathlib.Core.Path.{◌≡◌}
 use mathlib.Core.Bool.{true, false}
 use mathlib.Core.List.{List, [], map}
 use Prim.Native.Nat.{ℕ, ◌+◌, ◌-◌, ◌≤◌, ◌<◌}
@@ -69,9 +69,9 @@ module _ (t : Tracker) (b : ℕ) where
       adding_accepted n = rw (d, l, ne_eqb t.len longest n)
 
   -- the tracker with one letter more, from its parts
-  pub letter_added : with_totals (t.len + 1) (set t.bytes t.len b) (all_ended (take (t.len + 1) (set t.bytes t.len b)) t.board) ≡ added t b
+  pub letter_added : {bytes board : List ℕ} → bytes ≡ set t.bytes t.len b → board ≡ all_ended (take (t.len + 1) (set t.bytes t.len b)) t.board → with_totals (t.len + 1) bytes board ≡ added t b
   unfolding added all_ended
-  letter_added = rw add-one
+  letter_added e f = rw (e, f, add-one)
 
 -- ---- take-back
 
@@ -90,9 +90,9 @@ module _ (t : Tracker) where
     taking_back_accepted n = rw (d, ne_eqb t.len 0 n)
 
   -- the tracker with its last letter gone, from its parts
-  pub letter_gone : with_totals (t.len - 1) (set t.bytes (t.len - 1) 0) (map (entry_reopened t.len) t.board) ≡ shortened t
+  pub letter_gone : {bytes board : List ℕ} → bytes ≡ set t.bytes (t.len - 1) 0 → board ≡ map (entry_reopened t.len) t.board → with_totals (t.len - 1) bytes board ≡ shortened t
   unfolding shortened
-  letter_gone = refl
+  letter_gone e f = rw (e, f)
 
 -- ---- list
 
