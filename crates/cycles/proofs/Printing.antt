@@ -5,12 +5,12 @@ use mathlib.Core.List.{List, [], ◌∷◌}
 use Prim.Native.Nat.{ℕ, ◌≤◌}
 use native.Mathlib.Omega.{arith}
 use lib.ListN.{length, take}
+use Rattle.std.specs.Prelude.{Ok, Err}
 use Rattle.abelian.specs.Output.{fill}
 use Rattle.abelian.specs.Refusals.{report_refusal}
 use Rattle.abelian.specs.Answers.{Answer, answered_wrote, refusing, writing}
 use Rattle.abelian.specs.Calls.{report_words, reporting}
 use Rattle.abelian.specs.declared.Refusal.{Refusal}
-use Rattle.abelian.specs.declared.Wrote.TheVariants.{Words, Refused}
 use Rattle.abelian.proofs.Refusals.{refusal_number}
 use Rattle.report.proofs.Refusals.{reported_length, report_refused, report_written}
 use Rattle.report.proofs.Lengths.{report_places_lem}
@@ -47,7 +47,7 @@ module _ (w out after : List ℕ) (places : report_places ≡ length out) where
   all_written accepted = sym (report_written w accepted out (length (report_words w)) refl (omega (arith, few_words w accepted)))
 
   -- Where the report answers words, they are the word's report.
-  pub words_reported : (n : ℕ) → answered_wrote (Words n) after ≡ reporting w out → Reported w after n
+  pub words_reported : (n : ℕ) → answered_wrote (Ok n) after ≡ reporting w out → Reported w after n
   unfolding report_words
   words_reported n e = go (report_refusal w 0 0) refl
     where
@@ -68,7 +68,7 @@ module _ (w out after : List ℕ) (places : report_places ≡ length out) where
           }
 
   -- Where it is refused, the line of the refusal is what is printed.
-  pub refusal_reported : (r : Refusal) → answered_wrote (Refused r) after ≡ reporting w out → refusal_line r ≡ printed w
+  pub refusal_reported : (r : Refusal) → answered_wrote (Err r) after ≡ reporting w out → refusal_line r ≡ printed w
   unfolding refusal_line
   refusal_reported r e = go (report_refusal w 0 0) refl
     where

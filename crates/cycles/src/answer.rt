@@ -5,7 +5,6 @@ ghost use Rattle.cycles.specs.Lines.{word_in, printed};
 ghost use Rattle.cycles.specs.Reports.{longest_text};
 
 use crate::lines::{write_refusal, write_report};
-use abelian::Wrote;
 use report::{PLACES, report};
 
 // The longest line of an output word: a name of 6 letters, two numbers of 5 digits, and the spaces and the line's end.
@@ -34,8 +33,8 @@ fn write_answer(word: &[u8], text: &mut [u8]) -> usize
 {
     let mut words = [0u32; PLACES];
     match report(word, &mut words) {
-        Wrote::Words(n) => write_report(&words[..n], text),
-        Wrote::Refused(refusal) => write_refusal(refusal, text),
+        Ok(n) => write_report(&words[..n], text),
+        Err(refusal) => write_refusal(refusal, text),
     }
 }
 

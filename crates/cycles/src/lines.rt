@@ -1,5 +1,5 @@
 // Lines of text, from numbers and from the output words of a report. Each function writes to the first places of a slice, keeps the
-// rest of it, and returns the number of bytes written.
+// rest of it, and returns the number of bytes written: the program has no heap, so no `String`, and `write!` would not promise each byte.
 ghost use Rattle.std.specs.Prelude.{◌≤◌, length};
 ghost use Rattle.abelian.specs.Lists.{each};
 ghost use Rattle.abelian.specs.Periods.{pair};
@@ -7,13 +7,7 @@ ghost use Rattle.cycles.specs.Text.{decimal, spaced, line, Written};
 ghost use Rattle.cycles.specs.Lines.{period_line, cover_line, refusal_line};
 ghost use Rattle.cycles.specs.Reports.{line_of, text_of};
 
-use abelian::{Head, Period, Refusal};
-
-// What one of an output word's kind counts.
-const KIND: u32 = 268435456;
-
-// What one of the upper part counts; the lower part is below it.
-const UPPER: u32 = 16384;
+use abelian::{Head, KIND, Kind, Period, Refusal, UPPER};
 
 // Writes bytes.
 fn write_bytes(bytes: &[u8], text: &mut [u8]) -> usize
@@ -50,10 +44,8 @@ fn write_numbers(numbers: &[usize], text: &mut [u8]) -> usize
     ensures { Written (each numbers.now spaced) text.old text.new result }
 {
     let mut at = 0;
-    let mut i = 0;
-    while i < numbers.len() {
-        at += write_spaced(numbers[i], &mut text[at..]);
-        i += 1;
+    for number in numbers {
+        at += write_spaced(*number, &mut text[at..]);
     }
     at
 }
@@ -74,8 +66,8 @@ pub(crate) fn write_refusal(refusal: Refusal, text: &mut [u8]) -> usize
     requires { length (refusal_line refusal) ≤ length text.old }
     ensures { Written (refusal_line refusal) text.old text.new result }
 {
-    let number = abelian::number(refusal);
-    let value = abelian::value(refusal);
+    let number = refusal.number();
+    let value = refusal.value();
     write_line(b"refused", &[number, value], text)
 }
 
@@ -94,31 +86,32 @@ fn write_word(word: u32, text: &mut [u8]) -> usize
 {
     let upper = (word / UPPER % UPPER) as usize;
     let lower = (word % UPPER) as usize;
-    let kind = word / KIND;
+    let Ok(kind) = Kind::try_from(word / KIND) else {
+        return 0;
+    };
     match kind {
-        1 => write_period(Head(lower), Period(upper), text),
-        2 => write_line(b"square", &[lower, upper], text),
-        3 => write_line(b"full", &[upper], text),
-        8 => write_line(b"n", &[upper], text),
+        Kind::Period => write_period(Head(lower), Period(upper), text),
+        Kind::Square => write_line(b"square", &[lower, upper], text),
+        Kind::Full => write_line(b"full", &[upper], text),
+        Kind::Report => write_line(b"n", &[upper], text),
         _ => 0,
     }
 }
 
-// Writes the lines of output words, one behind the other.
+// Writes the lines of output words, one behind the other. It and `write_numbers` stay two functions: one that takes what writes a piece as a closure
+// would say in its contract what that asks and writes at every slice, and be no plainer.
 fn write_words(words: &[u32], text: &mut [u8]) -> usize
     requires { length (each words.now line_of) ≤ length text.old }
     ensures { Written (each words.now line_of) text.old text.new result }
 {
     let mut at = 0;
-    let mut i = 0;
-    while i < words.len() {
-        at += write_word(words[i], &mut text[at..]);
-        i += 1;
+    for word in words {
+        at += write_word(*word, &mut text[at..]);
     }
     at
 }
 
-// Writes the line that says whether a cover was found.
+// Writes the line that says whether a cover was found, which says no more than that, so that a bool is enough.
 fn write_cover(found: bool, text: &mut [u8]) -> usize
     requires { length (cover_line found) ≤ length text.old }
     ensures { Written (cover_line found) text.old text.new result }

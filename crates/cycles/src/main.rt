@@ -46,7 +46,8 @@ impl Display for Failure {
 }
 
 // Reads input into the slice until that is full or the input ends; one read may bring fewer bytes than there will be. Where the reader's
-// bytes are known, the slice has the first of them, and they alone are read.
+// bytes are known, the slice has the first of them, and they alone are read. The loop stays a `while`, since each read says how far it goes, and
+// std's method that reads on to the end fills a `Vec`, while this program has no heap.
 fn read_input<R: Read>(reader: &mut R, input: &mut [u8]) -> std::io::Result<usize>
     ensures within { bytes_read result ≤ length input.new }
     ensures first { IfOk result (λ n. IfSome (R.remaining reader.old) (λ xs. take n input.new ≡ take (length input.new) xs)) }
@@ -80,10 +81,8 @@ fn run<R: Read, W: Write>(reader: &mut R, writer: &mut W) -> Result<(), Failure>
         (λ xs. Consumes (R.remaining reader.old) (R.remaining reader.new) (take (longest + 2) xs))) }
 {
     let mut input = [0u8; DECIDING];
-    match read_input(reader, &mut input) {
-        Ok(n) => print_answer(&input[..n], writer).map_err(Failure::Writing),
-        Err(e) => Err(Failure::Reading(e)),
-    }
+    let n = read_input(reader, &mut input).map_err(Failure::Reading)?;
+    print_answer(&input[..n], writer).map_err(Failure::Writing)
 }
 
 fn main(rt: HostRuntime) -> ExitCode {

@@ -3,7 +3,7 @@ ghost use Rattle.std.specs.Prelude.{◌≡◌};
 ghost use Rattle.abelian.specs.Calls.{period_count, full_count, square_count, run_count, window_count, square_free_count, report_count};
 ghost use Rattle.luffbutton.specs.Numbers.{counted_numbers};
 
-use crate::numbers::{LuffCounted, of_needed};
+use crate::numbers::LuffCounted;
 use abelian::{Alphabet, Length};
 
 // Counts the words that the plain lister writes.
@@ -11,7 +11,7 @@ use abelian::{Alphabet, Length};
 pub extern "C" fn luff_count_plain(word: &[u8]) -> LuffCounted
     ensures { counted_numbers result ≡ period_count word.now }
 {
-    of_needed(listers::count_plain(word))
+    listers::count_plain(word).into()
 }
 
 // Counts the words that the skipping lister writes.
@@ -19,7 +19,7 @@ pub extern "C" fn luff_count_plain(word: &[u8]) -> LuffCounted
 pub extern "C" fn luff_count_skipping(word: &[u8]) -> LuffCounted
     ensures { counted_numbers result ≡ period_count word.now }
 {
-    of_needed(listers::count_skipping(word))
+    listers::count_skipping(word).into()
 }
 
 // Counts the full periods of the word by the plain path.
@@ -27,7 +27,7 @@ pub extern "C" fn luff_count_skipping(word: &[u8]) -> LuffCounted
 pub extern "C" fn luff_count_full(word: &[u8]) -> LuffCounted
     ensures { counted_numbers result ≡ full_count word.now }
 {
-    of_needed(full_periods::count_full(word))
+    full_periods::count_full(word).into()
 }
 
 // Counts the full periods of the word by the scaled path.
@@ -35,7 +35,7 @@ pub extern "C" fn luff_count_full(word: &[u8]) -> LuffCounted
 pub extern "C" fn luff_count_full_scaled(word: &[u8]) -> LuffCounted
     ensures { counted_numbers result ≡ full_count word.now }
 {
-    of_needed(full_periods::count_full_scaled(word))
+    full_periods::count_full_scaled(word).into()
 }
 
 // Counts the Abelian squares of the word.
@@ -43,7 +43,7 @@ pub extern "C" fn luff_count_full_scaled(word: &[u8]) -> LuffCounted
 pub extern "C" fn luff_count_squares(word: &[u8]) -> LuffCounted
     ensures { counted_numbers result ≡ square_count word.now }
 {
-    of_needed(squares::count_squares(word))
+    squares::count_squares(word).into()
 }
 
 // Counts the words of the Abelian runs of the word, two for each.
@@ -51,7 +51,7 @@ pub extern "C" fn luff_count_squares(word: &[u8]) -> LuffCounted
 pub extern "C" fn luff_count_runs(word: &[u8]) -> LuffCounted
     ensures { counted_numbers result ≡ run_count word.now }
 {
-    of_needed(runs::count_runs(word))
+    runs::count_runs(word).into()
 }
 
 // Counts the windows of a record that have a pattern's vector.
@@ -59,7 +59,7 @@ pub extern "C" fn luff_count_runs(word: &[u8]) -> LuffCounted
 pub extern "C" fn luff_count_windows(pattern: &[u8], record: &[u8]) -> LuffCounted
     ensures { counted_numbers result ≡ window_count pattern.now «record».now }
 {
-    of_needed(windows::count_windows(pattern, record))
+    windows::count_windows(pattern, record).into()
 }
 
 // Counts the words without an Abelian square over the first letters, of one length.
@@ -67,7 +67,7 @@ pub extern "C" fn luff_count_windows(pattern: &[u8], record: &[u8]) -> LuffCount
 pub extern "C" fn luff_count_square_free(alphabet: Alphabet, length: Length) -> LuffCounted
     ensures { counted_numbers result ≡ square_free_count alphabet.0 length.0 }
 {
-    of_needed(patterns::count_square_free(alphabet, length))
+    patterns::count_square_free(alphabet, length).into()
 }
 
 // Counts the words of the report of the word.
@@ -75,5 +75,5 @@ pub extern "C" fn luff_count_square_free(alphabet: Alphabet, length: Length) -> 
 pub extern "C" fn luff_count_report(word: &[u8]) -> LuffCounted
     ensures { counted_numbers result ≡ report_count word.now }
 {
-    of_needed(report::count_report(word))
+    report::count_report(word).into()
 }

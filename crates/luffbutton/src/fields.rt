@@ -6,12 +6,13 @@ ghost use Rattle.tracker.specs.Fields.{of_fields, as_step};
 ghost use Rattle.history.specs.Replay.{as_replay, replaying};
 ghost use Rattle.luffbutton.specs.Numbers.{outcome_numbers, wrote_numbers, counted_numbers, replayed_numbers};
 
-use crate::numbers::{
-    LuffCounted, LuffOutcome, LuffReplayed, LuffWrote, of_needed, of_outcome, of_wrote,
-};
+use crate::numbers::{LuffCounted, LuffOutcome, LuffReplayed, LuffWrote};
 use abelian::{BOARD, LONGEST};
+use history::in_place::replay;
+use tracker::in_place::{Fields, count, list};
 
 // Makes the fields those of a fresh tracker, whatever they were.
+#[tactic(auto, unfolding(abelian::specs::Trackers::clearing))]
 #[unsafe(no_mangle)]
 pub extern "C" fn luff_tracker_fresh_fields(
     len: &mut usize,
@@ -22,7 +23,14 @@ pub extern "C" fn luff_tracker_fresh_fields(
 )
     ensures { of_fields len.new bytes.new board.new live.new ended.new ≡ fresh_tracker }
 {
-    tracker::in_place::clear(len, bytes, board, live, ended);
+    let mut fields = Fields {
+        len,
+        bytes,
+        board,
+        live,
+        ended,
+    };
+    let _ = fields.clear();
 }
 
 // Adds a letter at the end.
@@ -38,7 +46,14 @@ pub extern "C" fn luff_tracker_add_fields(
     ensures { as_step (of_fields len.new bytes.new board.new live.new ended.new) (outcome_numbers result)
         ≡ adding (of_fields len.old bytes.old board.old live.old ended.old) letter }
 {
-    of_outcome(tracker::in_place::add(len, bytes, board, live, ended, letter))
+    let mut fields = Fields {
+        len,
+        bytes,
+        board,
+        live,
+        ended,
+    };
+    fields.add(letter).into()
 }
 
 // Takes the last letter back.
@@ -53,7 +68,14 @@ pub extern "C" fn luff_tracker_take_back_fields(
     ensures { as_step (of_fields len.new bytes.new board.new live.new ended.new) (outcome_numbers result)
         ≡ taking_back (of_fields len.old bytes.old board.old live.old ended.old) }
 {
-    of_outcome(tracker::in_place::take_back(len, bytes, board, live, ended))
+    let mut fields = Fields {
+        len,
+        bytes,
+        board,
+        live,
+        ended,
+    };
+    fields.take_back().into()
 }
 
 // Leaves a fresh tracker. Every tracker is accepted.
@@ -68,7 +90,14 @@ pub extern "C" fn luff_tracker_clear_fields(
     ensures { as_step (of_fields len.new bytes.new board.new live.new ended.new) (outcome_numbers result)
         ≡ clearing (of_fields len.old bytes.old board.old live.old ended.old) }
 {
-    of_outcome(tracker::in_place::clear(len, bytes, board, live, ended))
+    let mut fields = Fields {
+        len,
+        bytes,
+        board,
+        live,
+        ended,
+    };
+    fields.clear().into()
 }
 
 // Lists the open pairs in range for the letters held. The fields are lent for reading alone.
@@ -82,7 +111,7 @@ pub extern "C" fn luff_tracker_list_fields<'a>(
     ensures { (live ended : ℕ) → as_step (of_fields len bytes.now board.now live ended) (wrote_numbers result out.new)
         ≡ tracker_listing (of_fields len bytes.now board.now live ended) out.old }
 {
-    of_wrote(tracker::in_place::list(len, bytes, board, out))
+    list(len, bytes, board, out).into()
 }
 
 // Counts the pairs that a list would write. The fields are lent for reading alone.
@@ -95,7 +124,7 @@ pub extern "C" fn luff_tracker_count_fields<'a>(
     ensures { (live ended : ℕ) → as_step (of_fields len bytes.now board.now live ended) (counted_numbers result)
         ≡ tracker_count (of_fields len bytes.now board.now live ended) }
 {
-    of_needed(tracker::in_place::count(len, bytes, board))
+    count(len, bytes, board).into()
 }
 
 // Makes the fields those of a fresh tracker, whatever they were, makes the calls of a log on them, and then one list.
@@ -112,13 +141,12 @@ pub extern "C" fn luff_tracker_replay_fields(
     ensures { as_replay (of_fields len.new bytes.new board.new live.new ended.new) result.refused (replayed_numbers result out.new)
         ≡ replaying calls.now out.old }
 {
-    let answer = history::in_place::replay(calls, out, len, bytes, board, live, ended);
-    let wrote = answer.wrote;
-    let listed = of_wrote(wrote);
-    LuffReplayed {
-        refusal: listed.refusal,
-        value: listed.value,
-        refused: answer.refused,
-        written: listed.written,
-    }
+    let mut fields = Fields {
+        len,
+        bytes,
+        board,
+        live,
+        ended,
+    };
+    replay(calls, out, &mut fields).into()
 }

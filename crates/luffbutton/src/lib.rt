@@ -14,17 +14,14 @@ ghost use Rattle.abelian.specs.Calls.{judging, plain_listing, skipping_listing, 
 ghost use Rattle.luffbutton.specs.Numbers.{verdict_numbers, cover_numbers, listed_numbers, scaled_numbers, wrote_numbers};
 
 use abelian::{Alphabet, Head, Length, Period};
-use numbers::{
-    LuffCover, LuffListed, LuffScaled, LuffVerdict, LuffWrote, of_covered, of_listed, of_scaled,
-    of_verdict, of_wrote,
-};
+use numbers::{LuffCover, LuffListed, LuffScaled, LuffVerdict, LuffWrote};
 
 // Judges a pair.
 #[unsafe(no_mangle)]
 pub extern "C" fn luff_judge(word: &[u8], head: Head, period: Period) -> LuffVerdict
     ensures { verdict_numbers result ≡ judging word.now (pair head.0 period.0) }
 {
-    of_verdict(judge::judge(word, head, period))
+    judge::judge(word, head, period).into()
 }
 
 // Lists the Abelian periods of the word by the plain lister.
@@ -32,7 +29,7 @@ pub extern "C" fn luff_judge(word: &[u8], head: Head, period: Period) -> LuffVer
 pub extern "C" fn luff_list_plain(word: &[u8], out: &mut [u32]) -> LuffListed
     ensures { listed_numbers result out.new ≡ plain_listing word.now out.old }
 {
-    of_listed(listers::list_plain(word, out))
+    listers::list_plain(word, out).into()
 }
 
 // Lists the Abelian periods of the word by the skipping lister.
@@ -40,7 +37,7 @@ pub extern "C" fn luff_list_plain(word: &[u8], out: &mut [u32]) -> LuffListed
 pub extern "C" fn luff_list_skipping(word: &[u8], out: &mut [u32]) -> LuffListed
     ensures { listed_numbers result out.new ≡ skipping_listing word.now out.old }
 {
-    of_listed(listers::list_skipping(word, out))
+    listers::list_skipping(word, out).into()
 }
 
 // Lists the full periods of the word by the plain path.
@@ -48,7 +45,7 @@ pub extern "C" fn luff_list_skipping(word: &[u8], out: &mut [u32]) -> LuffListed
 pub extern "C" fn luff_list_full(word: &[u8], out: &mut [u32]) -> LuffWrote
     ensures { wrote_numbers result out.new ≡ full_listing word.now out.old }
 {
-    of_wrote(full_periods::list_full(word, out))
+    full_periods::list_full(word, out).into()
 }
 
 // Lists the full periods of the word by the scaled path, with s and T.
@@ -56,7 +53,7 @@ pub extern "C" fn luff_list_full(word: &[u8], out: &mut [u32]) -> LuffWrote
 pub extern "C" fn luff_list_full_scaled(word: &[u8], out: &mut [u32]) -> LuffScaled
     ensures { scaled_numbers result out.new ≡ scaled_listing word.now out.old }
 {
-    of_scaled(full_periods::list_full_scaled(word, out))
+    full_periods::list_full_scaled(word, out).into()
 }
 
 // Lists the Abelian squares of the word.
@@ -64,7 +61,7 @@ pub extern "C" fn luff_list_full_scaled(word: &[u8], out: &mut [u32]) -> LuffSca
 pub extern "C" fn luff_list_squares(word: &[u8], out: &mut [u32]) -> LuffWrote
     ensures { wrote_numbers result out.new ≡ square_listing word.now out.old }
 {
-    of_wrote(squares::list_squares(word, out))
+    squares::list_squares(word, out).into()
 }
 
 // Lists the Abelian runs of the word.
@@ -72,7 +69,7 @@ pub extern "C" fn luff_list_squares(word: &[u8], out: &mut [u32]) -> LuffWrote
 pub extern "C" fn luff_list_runs(word: &[u8], out: &mut [u32]) -> LuffWrote
     ensures { wrote_numbers result out.new ≡ run_listing word.now out.old }
 {
-    of_wrote(runs::list_runs(word, out))
+    runs::list_runs(word, out).into()
 }
 
 // Lists the windows of a record that have a pattern's vector.
@@ -80,7 +77,7 @@ pub extern "C" fn luff_list_runs(word: &[u8], out: &mut [u32]) -> LuffWrote
 pub extern "C" fn luff_list_windows(pattern: &[u8], record: &[u8], out: &mut [u32]) -> LuffWrote
     ensures { wrote_numbers result out.new ≡ window_listing pattern.now «record».now out.old }
 {
-    of_wrote(windows::list_windows(pattern, record, out))
+    windows::list_windows(pattern, record, out).into()
 }
 
 // Lists the words without an Abelian square over the first letters, of one length.
@@ -92,7 +89,7 @@ pub extern "C" fn luff_list_square_free(
 ) -> LuffWrote
     ensures { wrote_numbers result out.new ≡ square_free_listing alphabet.0 length.0 out.old }
 {
-    of_wrote(patterns::list_square_free(alphabet, length, out))
+    patterns::list_square_free(alphabet, length, out).into()
 }
 
 // Searches for a cover of the word.
@@ -100,7 +97,7 @@ pub extern "C" fn luff_list_square_free(
 pub extern "C" fn luff_find_cover(word: &[u8]) -> LuffCover
     ensures { cover_numbers result ≡ cover_answer word.now }
 {
-    of_covered(covers::find_cover(word))
+    covers::find_cover(word).into()
 }
 
 // Writes the report of the word.
@@ -108,5 +105,5 @@ pub extern "C" fn luff_find_cover(word: &[u8]) -> LuffCover
 pub extern "C" fn luff_report(word: &[u8], out: &mut [u32]) -> LuffWrote
     ensures { wrote_numbers result out.new ≡ reporting word.now out.old }
 {
-    of_wrote(report::report(word, out))
+    report::report(word, out).into()
 }

@@ -1,93 +1,84 @@
-// The answers of calls as text.
-use crate::text::{say, say_named, say_number, say_words};
-use abelian::{Covered, Listed, Needed, Outcome, Refusal, Scaled, Verdict, Wrote, number, value};
+// The answers of calls as text. The types are the library's, which prints nothing, so that no `Display` of theirs stands here.
+use crate::text::{Form, say_words};
+use abelian::{Listed, Refusal, Scaled, Verdict};
 use std::io;
 use std::io::Write;
 
-// Prints a refusal's number and value.
-fn say_refusal<W: Write>(to: &mut W, refusal: Refusal) -> io::Result<()> {
-    say_named(to, b" refused", number(refusal))?;
-    say_number(to, b' ', value(refusal))
-}
-
-// Prints the trials of an accepted list, and returns its words.
-fn with_trials<W: Write>(to: &mut W, words: usize, trials: usize) -> io::Result<Wrote> {
-    say_named(to, b" trials", trials)?;
-    Ok(Wrote::Words(words))
-}
-
-// Prints what a lister of periods answered besides its words.
-pub(crate) fn say_trials<W: Write>(to: &mut W, listed: Listed) -> io::Result<Wrote> {
-    match listed {
-        Listed::Written { words, trials } => with_trials(to, words, trials),
-        Listed::Refused(refusal) => Ok(Wrote::Refused(refusal)),
-    }
-}
-
-// Prints s and T of an accepted list, and returns its words.
-fn with_scale<W: Write>(to: &mut W, words: usize, s: usize, t: usize) -> io::Result<Wrote> {
-    say_named(to, b" s", s)?;
-    say_named(to, b" T", t)?;
-    Ok(Wrote::Words(words))
-}
-
-// Prints what the scaled path answered besides its words.
-pub(crate) fn say_scale<W: Write>(to: &mut W, scaled: Scaled) -> io::Result<Wrote> {
-    match scaled {
-        Scaled::Written { words, s, t } => with_scale(to, words, s, t),
-        Scaled::Refused(refusal) => Ok(Wrote::Refused(refusal)),
-    }
-}
-
-// Prints what a list call answered: the output words, raw or by their kinds, or the refusal.
-pub(crate) fn say_wrote<W: Write>(
+// Prints an answer: what was accepted as the closure prints it, and of a refusal the number and the value.
+fn say<W: Write, T, F: FnOnce(&mut W, T) -> io::Result<()>>(
     to: &mut W,
-    raw: bool,
-    wrote: Wrote,
+    answer: Result<T, Refusal>,
+    say_accepted: F,
+) -> io::Result<()>
+    requires { F.IsAlwaysCallable say_accepted }
+{
+    match answer {
+        Ok(accepted) => say_accepted(to, accepted),
+        Err(refusal) => write!(to, " refused {} {}", refusal.number(), refusal.value()),
+    }
+}
+
+// Prints what a lister of periods answered besides its words, and returns these. One function for this and `say_scale` would be no plainer: they
+// share one `map`, and each prints fields of its own.
+pub(crate) fn say_trials<W: Write>(
+    to: &mut W,
+    answer: Result<Listed, Refusal>,
+) -> io::Result<Result<usize, Refusal>> {
+    if let Ok(listed) = answer {
+        write!(to, " trials {}", listed.trials)?;
+    }
+    Ok(answer.map(|listed| listed.words))
+}
+
+// Prints what the scaled path answered besides its words, s and T, and returns these.
+pub(crate) fn say_scale<W: Write>(
+    to: &mut W,
+    answer: Result<Scaled, Refusal>,
+) -> io::Result<Result<usize, Refusal>> {
+    if let Ok(scaled) = answer {
+        write!(to, " s {} T {}", scaled.s, scaled.t)?;
+    }
+    Ok(answer.map(|scaled| scaled.words))
+}
+
+// Prints what a list call answered: the output words in the form given, or the refusal.
+pub(crate) fn say_list<W: Write>(
+    to: &mut W,
+    form: Form,
+    answer: Result<usize, Refusal>,
     out: &[u32],
 ) -> io::Result<()> {
-    match wrote {
-        Wrote::Words(words) => say_words(to, raw, out, words),
-        Wrote::Refused(refusal) => say_refusal(to, refusal),
-    }
+    say(to, answer, |to, words| say_words(to, form, out, words))
 }
 
 // Prints what a count answered.
-pub(crate) fn say_needed<W: Write>(to: &mut W, needed: Needed) -> io::Result<()> {
-    match needed {
-        Needed::Words(words) => say_named(to, b" counted", words),
-        Needed::Refused(refusal) => say_refusal(to, refusal),
-    }
+pub(crate) fn say_count<W: Write>(to: &mut W, answer: Result<usize, Refusal>) -> io::Result<()> {
+    say(to, answer, |to, words| write!(to, " counted {words}"))
 }
 
 // Prints what the search for a cover answered.
-pub(crate) fn say_covered<W: Write>(to: &mut W, covered: Covered) -> io::Result<()> {
-    match covered {
-        Covered::Length(m) => say_number(to, b' ', m),
-        Covered::Nothing => say(to, b" none"),
-        Covered::Refused(refusal) => say_refusal(to, refusal),
-    }
+pub(crate) fn say_cover<W: Write>(
+    to: &mut W,
+    answer: Result<Option<usize>, Refusal>,
+) -> io::Result<()> {
+    say(to, answer, |to, cover| match cover {
+        Some(length) => write!(to, " {length}"),
+        None => write!(to, " none"),
+    })
 }
 
-// Prints the place of a failure.
-fn say_failure<W: Write>(to: &mut W, block: usize, letter: u8) -> io::Result<()> {
-    say_named(to, b" block", block)?;
-    say(to, &[b' ', letter])
-}
-
-// Prints what the judge answered.
-pub(crate) fn say_verdict<W: Write>(to: &mut W, verdict: Verdict) -> io::Result<()> {
-    match verdict {
-        Verdict::Yes => say(to, b" yes"),
-        Verdict::No { block, letter } => say_failure(to, block, letter),
-        Verdict::Refused(refusal) => say_refusal(to, refusal),
-    }
+// Prints what the judge answered, of a pair that is no Abelian period with the place of the failure.
+pub(crate) fn say_verdict<W: Write>(
+    to: &mut W,
+    answer: Result<Verdict, Refusal>,
+) -> io::Result<()> {
+    say(to, answer, |to, verdict| match verdict {
+        Verdict::Yes => write!(to, " yes"),
+        Verdict::No { block, letter } => write!(to, " block {block} {}", letter as char),
+    })
 }
 
 // Prints what an add, a take-back or a clear answered: nothing where it was accepted.
-pub(crate) fn say_outcome<W: Write>(to: &mut W, outcome: Outcome) -> io::Result<()> {
-    if let Outcome::Refused(refusal) = outcome {
-        say_refusal(to, refusal)?;
-    }
-    Ok(())
+pub(crate) fn say_outcome<W: Write>(to: &mut W, answer: Result<(), Refusal>) -> io::Result<()> {
+    say(to, answer, |_, ()| Ok(()))
 }

@@ -25,64 +25,38 @@ mod calls;
 mod text;
 mod tracked;
 
-ghost use Rattle.std.specs.Prelude.{◌≤◌, length, IfOk};
-
 use calls::run_call;
 use std::io;
 use std::io::{BufWriter, Read, Write};
-use text::{next, say};
+
+// How many bytes of the input are read at most.
+const LONGEST_INPUT: u64 = 65536;
 
 // Makes the call of a line, if it is no heading.
 fn run_line<W: Write>(to: &mut W, line: &[u8]) -> io::Result<()> {
-    if line.len() < 12 {
-        return Ok(());
-    }
-    if line[11] == b':' {
-        run_call(to, line[7], line[9], line[10], &line[12..])?;
-    }
-    Ok(())
-}
-
-// Prints a line with what its call answered.
-fn say_line<W: Write>(to: &mut W, line: &[u8]) -> io::Result<()> {
-    say(to, line)?;
-    run_line(to, line)?;
-    say(to, b"\n")
-}
-
-// Goes through the lines of a text.
-fn run_lines<W: Write>(to: &mut W, text: &[u8]) -> io::Result<()> {
-    let mut from = 0;
-    while from < text.len() {
-        let end = next(text, from, b'\n');
-        say_line(to, &text[from..end])?;
-        from = end + 1;
-    }
-    Ok(())
-}
-
-// How many bytes of the input are read at most.
-const LONGEST_INPUT: usize = 65536;
-
-// Reads input into the slice until that is full or the input ends, and returns the number of bytes.
-fn read_full<R: Read>(reader: &mut R, input: &mut [u8]) -> io::Result<usize>
-    ensures { IfOk result (λ n. n ≤ length input.new) }
-{
-    let mut at = 0;
-    while at < input.len() {
-        let more = reader.read(&mut input[at..])?;
-        if more == 0 {
-            return Ok(at);
+    match line {
+        [_, _, _, _, _, _, _, call, _, first, second, b':', body @ ..] => {
+            run_call(to, *call, [*first, *second], body)
         }
-        at += more;
+        _ => Ok(()),
     }
-    Ok(at)
+}
+
+// Goes through the lines of a text, and prints each with what its call answered.
+fn run_lines<W: Write>(to: &mut W, text: &[u8]) -> io::Result<()> {
+    for ended in text.split_inclusive(|byte| *byte == b'\n') {
+        let line = ended.strip_suffix(b"\n").unwrap_or(ended);
+        to.write_all(line)?;
+        run_line(to, line)?;
+        to.write_all(b"\n")?;
+    }
+    Ok(())
 }
 
 fn main(rt: HostRuntime) -> io::Result<()> {
-    let mut input = [0u8; LONGEST_INPUT];
-    let n = read_full(&mut rt.reader(), &mut input)?;
+    let mut input = Vec::new(rt.alloc());
+    rt.reader().take(LONGEST_INPUT).read_to_end(&mut input)?;
     let mut to = BufWriter::new(rt.alloc(), io::writer(&rt))?;
-    run_lines(&mut to, &input[..n])?;
+    run_lines(&mut to, &input)?;
     to.flush()
 }

@@ -1,49 +1,33 @@
 // The tracker's calls: a list of calls, one byte each, from a fresh tracker, and each call printed on one line.
-use crate::answers::{say_needed, say_outcome};
-use crate::text::{begin_line, say, say_named, say_number};
-use abelian::{BOARD, LONGEST, Tracker, Wrote};
+use crate::answers::{say_count, say_outcome};
+use abelian::{BOARD, LONGEST, Refusal, Tracker};
 use history::replay;
 use std::io;
 use std::io::Write;
-use tracker::{Stepped, add, clear, count, fresh, list, take_back};
+use tracker::{add, clear, count, fresh, list, take_back};
 
-// Prints a byte as it is, if it is not 0.
-fn say_byte<W: Write>(to: &mut W, byte: u8) -> io::Result<()> {
-    if byte != 0 {
-        say(to, &[byte])?;
-    }
-    Ok(())
+// Begins a line with a byte.
+fn begin_line<W: Write>(to: &mut W, byte: u8) -> io::Result<()> {
+    to.write_all(&[b'\n', byte])
 }
 
 // Prints the bytes of a tracker that are not 0.
 fn say_bytes<W: Write>(to: &mut W, tracker: &Tracker) -> io::Result<()> {
-    for byte in &tracker.bytes {
-        say_byte(to, *byte)?;
+    for byte in tracker.bytes.iter().filter(|byte| **byte != 0) {
+        to.write_all(&[*byte])?;
     }
     Ok(())
 }
 
-// Prints a pair and its entry, if that is not 0.
-fn say_entry<W: Write>(to: &mut W, h: usize, p: usize, entry: u8) -> io::Result<()> {
-    if entry != 0 {
-        say_number(to, b' ', h)?;
-        say_number(to, b',', p)?;
-        say_number(to, b'=', entry as usize)?;
-    }
-    Ok(())
-}
-
-// Prints the entries of a tracker that are not 0. They are in pair order, from (0, 1) on: behind a pair comes that with the next head if it
-// is in range for 240, and else head 0 with the next period.
+// Prints the pairs whose entries in a tracker are not 0, and these. They are in pair order, from (0, 1) on: period by period, and for each its heads
+// that are in range for 240, which are below it and leave room for a block.
 fn say_entries<W: Write>(to: &mut W, tracker: &Tracker) -> io::Result<()> {
-    let mut h = 0;
-    let mut p = 1;
-    for at in 0..BOARD {
-        say_entry(to, h, p, tracker.board[at])?;
-        h += 1;
-        if p <= h || LONGEST < h + p {
-            h = 0;
-            p += 1;
+    let mut entries = tracker.board.iter();
+    for p in 1..=LONGEST {
+        for (h, entry) in (0..p.min(LONGEST + 1 - p)).zip(&mut entries) {
+            if *entry != 0 {
+                write!(to, " {h},{p}={entry}")?;
+            }
         }
     }
     Ok(())
@@ -51,16 +35,15 @@ fn say_entries<W: Write>(to: &mut W, tracker: &Tracker) -> io::Result<()> {
 
 // Prints a tracker: its length, its bytes, its entries, and its totals with a plus between them.
 fn say_tracker<W: Write>(to: &mut W, tracker: &Tracker) -> io::Result<()> {
-    say_number(to, b' ', tracker.len)?;
-    say(to, b":")?;
+    write!(to, " {}:", tracker.len)?;
     say_bytes(to, tracker)?;
     say_entries(to, tracker)?;
-    say_number(to, b' ', tracker.live)?;
-    say_number(to, b'+', tracker.ended)
+    write!(to, " {}+{}", tracker.live, tracker.ended)
 }
 
-// Makes the call that a byte stands for, as in a log: a take-back, a clear, or an add of the byte.
-fn call(tracker: Tracker, byte: u8) -> Stepped {
+// Makes the call that a byte stands for, as in a log: a take-back, a clear, or an add of the byte. It is a match and no table of
+// functions: add alone takes the byte, and the gate refuses a function that hands out function pointers.
+fn call(tracker: &mut Tracker, byte: u8) -> Result<(), Refusal> {
     match byte {
         b'-' => take_back(tracker),
         b'!' => clear(tracker),
@@ -68,25 +51,20 @@ fn call(tracker: Tracker, byte: u8) -> Stepped {
     }
 }
 
-// Prints a call with what it answered and the tracker as it left it, and returns that tracker.
-fn say_stepped<W: Write>(to: &mut W, byte: u8, stepped: Stepped) -> io::Result<Tracker> {
-    let tracker = stepped.tracker;
-    let outcome = stepped.outcome;
+// Makes the call that a byte stands for, and prints it with what it answered and the tracker as it left it.
+fn say_call<W: Write>(to: &mut W, tracker: &mut Tracker, byte: u8) -> io::Result<()> {
+    let answer = call(tracker, byte);
     begin_line(to, byte)?;
-    say_outcome(to, outcome)?;
-    say_tracker(to, &tracker)?;
-    Ok(tracker)
+    say_outcome(to, answer)?;
+    say_tracker(to, tracker)
 }
 
-// Calls the tracker's count, prints what it answered and the tracker as the call left it, and returns that tracker.
-fn say_counted<W: Write>(to: &mut W, tracker: Tracker) -> io::Result<Tracker> {
-    let counting = count(tracker);
-    let after = counting.tracker;
-    let needed = counting.needed;
+// Calls the tracker's count, and prints what it answered and the tracker as the call left it.
+fn say_counted<W: Write>(to: &mut W, tracker: &Tracker) -> io::Result<()> {
+    let answer = count(tracker);
     begin_line(to, b'=')?;
-    say_needed(to, needed)?;
-    say_tracker(to, &after)?;
-    Ok(after)
+    say_count(to, answer)?;
+    say_tracker(to, tracker)
 }
 
 // A tracker that holds 240 times a, with totals that are not those of its board.
@@ -100,67 +78,43 @@ fn full() -> Tracker {
     }
 }
 
-// The tracker with length 241.
-fn too_long(tracker: Tracker) -> Tracker {
-    let mut damaged = tracker;
-    damaged.len = LONGEST + 1;
-    damaged
-}
-
-// The tracker with a first byte that is no letter.
-fn no_letter(tracker: Tracker) -> Tracker {
-    let mut damaged = tracker;
-    damaged.bytes[0] = 0;
-    damaged
-}
-
-// The tracker with 0 for the entry of (0, 1), which is the first of the board.
-fn reopened(tracker: Tracker) -> Tracker {
-    let mut other = tracker;
-    other.board[0] = 0;
-    other
-}
-
-// The tracker after a byte of a list of calls. `=` is a count, for which a log has no byte. Four bytes stand for no call, but set the tracker by hand:
-// `*` makes it full, `#` sets its length to 241, `_` its first byte to 0, and `0` the entry of (0, 1) to 0.
-fn run_byte<W: Write>(to: &mut W, tracker: Tracker, byte: u8) -> io::Result<Tracker> {
+// Makes the call of a byte on the tracker. `=` is a count, for which a log has no byte. Four bytes stand for no call, but set the tracker by hand:
+// `*` makes it full, `#` sets its length to 241, `_` its first byte to 0, and `0` the entry of (0, 1), which is the first of the board, to 0.
+fn run_byte<W: Write>(to: &mut W, tracker: &mut Tracker, byte: u8) -> io::Result<()> {
     match byte {
-        b'*' => Ok(full()),
-        b'#' => Ok(too_long(tracker)),
-        b'_' => Ok(no_letter(tracker)),
-        b'0' => Ok(reopened(tracker)),
-        b'=' => say_counted(to, tracker),
-        _ => say_stepped(to, byte, call(tracker, byte)),
+        b'*' => *tracker = full(),
+        b'#' => tracker.len = LONGEST + 1,
+        b'_' => tracker.bytes[0] = 0,
+        b'0' => tracker.board[0] = 0,
+        b'=' => say_counted(to, tracker)?,
+        _ => say_call(to, tracker, byte)?,
     }
+    Ok(())
 }
 
-// The tracker after a list of calls from a fresh one.
-fn run_bytes<W: Write>(to: &mut W, bytes: &[u8]) -> io::Result<Tracker> {
+// Makes a list of calls from a fresh tracker, calls its list, and prints the tracker as that left it on a line that begins with `?`.
+pub(crate) fn tracked<W: Write>(
+    to: &mut W,
+    bytes: &[u8],
+    out: &mut [u32],
+) -> io::Result<Result<usize, Refusal>> {
     let mut tracker = fresh();
     for byte in bytes {
-        tracker = run_byte(to, tracker, *byte)?;
+        run_byte(to, &mut tracker, *byte)?;
     }
-    Ok(tracker)
-}
-
-// Calls the tracker's list, and prints the tracker as the call left it on a line that begins with `?`.
-fn listed<W: Write>(to: &mut W, tracker: Tracker, out: &mut [u32]) -> io::Result<Wrote> {
-    let listing = list(tracker, out);
-    let after = listing.tracker;
+    let answer = list(&tracker, out);
     begin_line(to, b'?')?;
-    say_tracker(to, &after)?;
-    Ok(listing.wrote)
-}
-
-// Makes a list of calls from a fresh tracker, and calls its list.
-pub(crate) fn tracked<W: Write>(to: &mut W, bytes: &[u8], out: &mut [u32]) -> io::Result<Wrote> {
-    let tracker = run_bytes(to, bytes)?;
-    listed(to, tracker, out)
+    say_tracker(to, &tracker)?;
+    Ok(answer)
 }
 
 // Replays a log of calls, and prints how many of its calls were refused.
-pub(crate) fn replayed<W: Write>(to: &mut W, calls: &[u8], out: &mut [u32]) -> io::Result<Wrote> {
+pub(crate) fn replayed<W: Write>(
+    to: &mut W,
+    calls: &[u8],
+    out: &mut [u32],
+) -> io::Result<Result<usize, Refusal>> {
     let replayed = replay(calls, out);
-    say_named(to, b" refusals", replayed.refused)?;
+    write!(to, " refusals {}", replayed.refused)?;
     Ok(replayed.wrote)
 }

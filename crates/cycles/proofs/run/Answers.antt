@@ -5,10 +5,10 @@ use Rattle.abelian.specs.Words.{longest}
 use Rattle.cycles.proofs.Inputs.{first_bytes_decide}
 use Rattle.cycles.proofs.run.Goals as goal
 
-pub returns-in-Ok-clause-written : goal.returns-in-Ok-clause-written
+pub returns-clause-written : goal.returns-clause-written
 unfolding longest
-returns-in-Ok-clause-written g c = grind (arith, common_steps, first_bytes_decide)
+returns-clause-written g c = grind (arith, common_steps, first_bytes_decide)
 
-pub returns-in-Ok-clause-consumed : goal.returns-in-Ok-clause-consumed
+pub returns-clause-consumed : goal.returns-clause-consumed
 unfolding longest
-returns-in-Ok-clause-consumed g c = grind (arith, common_steps)
+returns-clause-consumed g c = grind (arith, common_steps)

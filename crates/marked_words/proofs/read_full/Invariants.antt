@@ -1,9 +1,0 @@
--- The bytes read are within the slice, which keeps its length. The measure is the places that are left: a read that brings nothing ends the loop.
-use Rattle.std.proofs.Common.{length, ◌-◌, ◌≡◌, ◌≤◌}
-use Rattle.marked_words.proofs.read_full.Given as goal
-
-abbrev pub invariant-loop-at : goal.invariant-loop-at
-invariant-loop-at g l = record { size : length l.input ≡ length l.initial.input; within : l.at ≤ length l.input }
-
-abbrev pub decreases-loop-at : goal.decreases-loop-at
-decreases-loop-at g l = length l.initial.input - l.at
