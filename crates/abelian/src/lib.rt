@@ -2,7 +2,7 @@
 // and value. What each of them means is said in specs/, one file a subject; the crates above do the work.
 #![tactic(auto)]
 
-ghost use Rattle.std.specs.Prelude.{◌≡◌, ◌*◌, ◌^◌, ◌≤◌};
+ghost use Rattle.std.specs.Prelude.{◌≡◌, ◌*◌, ◌^◌, ◌≤◌, set};
 ghost use Rattle.abelian.specs.Words.{longest};
 ghost use Rattle.abelian.specs.Refusals.{number_of, value_of};
 ghost use Rattle.abelian.specs.Output.{kind_number, OfNumber, output_word};
@@ -10,7 +10,7 @@ ghost use Rattle.abelian.specs.Output.{kind_number, OfNumber, output_word};
 // How many letters there are: the one place of the code that names the number.
 pub const LETTERS: usize = 26;
 
-// The byte of the letter a, from which the letters go up.
+// The byte of the letter a, from which the letters go up. A letter's place is the letter less this: a function for it would be no plainer, since it would ask for a letter.
 pub const FIRST_LETTER: u8 = 97;
 
 // The longest word.
@@ -54,7 +54,8 @@ pub enum Refusal {
     TooLong,
     // 2: a byte that is no letter; the first such position, in the word or in the record, 1 for an add.
     NotALetter(usize),
-    // 3: a list longer than the slice; the words needed.
+    // 3: a list longer than the slice; the words needed. Each list makes the test itself, since its wrong programs are about that test (`exact_slice_refused`,
+    // `too_short_on_sight`).
     SliceTooShort(usize),
     // 4: an add at 240 letters.
     TrackerFull,
@@ -97,7 +98,7 @@ impl Refusal {
         }
     }
 
-    // A refusal's value: a position, the words needed, or 0.
+    // A refusal's value: a position, the words needed, or 0 and no `Option` where it has none, as the definition `value_of` states it.
     pub fn value(self) -> usize
         ensures { result ≡ value_of self }
     {
@@ -189,6 +190,16 @@ pub fn output_word(kind: Kind, upper: usize, lower: usize) -> u32
     ensures { result ≡ output_word (kind_number kind) upper lower }
 {
     kind.word() + (upper as u32) * UPPER + lower as u32
+}
+
+// Stores an output word at a place of the slice, where the slice has it. It takes a place and no part of the slice, which would be no plainer: the place is counted on where the
+// slice has no more.
+pub fn store_word(out: &mut [u32], place: usize, word: u32)
+    ensures { out.new ≡ set out.old place word }
+{
+    if place < out.len() {
+        out[place] = word;
+    }
 }
 
 // A word that grows and shrinks by letters: its length, its letters, a board with an entry for each pair in range for 240, in pair

@@ -49,6 +49,7 @@ fn check_sizes(alphabet: Alphabet, length: Length) -> Result<Sizes, Refusal>
 }
 
 // Finds all square-free words from the empty beginning on, writes as many as there are places for, and returns their number.
+#[tactic(auto, unfolding(abelian::specs::Patterns::longest_square_free))]
 fn find_all(sizes: &Sizes, out: &mut [u32]) -> usize
     ensures value { result ≡ length (pattern_words sizes.now.letters sizes.now.length) }
     ensures out_after { out.new ≡ stored 0 (pattern_words sizes.now.letters sizes.now.length) out.old }

@@ -1,11 +1,11 @@
 // The search for square-free words, depth first over their beginnings. A beginning is known by totals: the total of a stretch is a number in base 32
 // that has for each letter how often it stands there, so that two stretches of a pattern have equal totals exactly where they have equal count vectors. A letter is tried only against the
 // squares that end at it, and a beginning with a square is not continued.
-ghost use Rattle.std.specs.Prelude.{◌≡◌, ◌+◌, ◌≤◌, length, drop, set};
+ghost use Rattle.std.specs.Prelude.{◌≡◌, ◌+◌, ◌≤◌, length, drop};
 ghost use Rattle.abelian.specs.Patterns.{largest_alphabet};
 ghost use Rattle.patterns.specs.Search.{Totals, Numbered, ends_square, found, stored};
 
-use abelian::{Alphabet, Kind, Length};
+use abelian::{Alphabet, Kind, Length, store_word};
 
 // The base of totals. A letter's weight is that of the letter before it times this.
 const BASE: u32 = 32;
@@ -27,19 +27,10 @@ fn ends_square(totals: &[u32]) -> bool
     false
 }
 
-// Stores the word at the place, where the slice has it. Windows go by a function of their own, whose contract is over the word's start.
-fn store(out: &mut [u32], at: usize, word: u32)
-    ensures { out.new ≡ set out.old at word }
-{
-    if at < out.len() {
-        out[at] = word;
-    }
-}
-
 // Finds the square-free words that go on from a beginning by so many letters, in alphabetical order, and writes them from the place `at` on, as far as there are places.
 // Returns the place behind the last of them. The beginning is given by its totals, which stand from the place that is the number of letters left on, and by its number
 // in base k. The places before these are written on the way down, so that the totals are no shorter slice.
-// The place is handed on beside the slice and not as a part of it, since it counts on where the slice has no more places.
+// The place is handed on beside the slice and not as a part of it, which would be no plainer: it counts on where the slice has no more places.
 pub(crate) fn search(
     alphabet: Alphabet,
     left: Length,
@@ -58,7 +49,7 @@ pub(crate) fn search(
     let k = alphabet.0;
     let last = left.0;
     if last == 0 {
-        store(out, at, Kind::Pattern.word() + number);
+        store_word(out, at, Kind::Pattern.word() + number);
         return at + 1;
     }
     let next = last - 1;

@@ -1,6 +1,5 @@
 -- Laws of the excess of one vector's counts over another's, modulo 2^8.
 use Rattle.std.proofs.Common.{cond, count_by, ◌≡◌, ℕ, zero, suc, ◌+◌, ◌-◌, ◌%◌, ◌^◌, ◌<◌, ◌≤◌, Bool, true, false, not, ◌&&◌, eqb, List, [], ◌∷◌, length, get_or, set, sym, refl, ap, ◌∙◌, ⊎_elim, mod-eq_of_lt, arith, eq-eqb, ne_eqb, eqb-true}
-use mir.Val.{bool_byte}
 use Rattle.std.proofs.lemmas.List.Recursion.{is_count_by}
 use native.Mathlib.Nat.{mod-add-mod, add-mod_right}
 use borrow.Author.Tests.{eqb-false}
@@ -74,11 +73,6 @@ excess-set (a ∷ u) (b ∷ v) (suc j) x l m = ap (λ (l : List ℕ). excess_of 
 pub zero_or_not : (b : Bool) → one b + one (not b) ≡ 1
 zero_or_not true = refl
 zero_or_not false = refl
-
--- the same, where the code adds the flag
-pub flag_or_not : (b : Bool) → bool_byte b + one (not b) ≡ 1
-flag_or_not true = refl
-flag_or_not false = refl
 
 -- as many as pass the test
 pub nonzero_counted : (u : List ℕ) → nonzero u ≡ count_by (λ (x : ℕ). not (eqb x 0)) u

@@ -9,7 +9,7 @@ ghost use Rattle.windows.specs.Excess.{excess, nonzero};
 ghost use Rattle.windows.specs.Sliding.{Readable, fill_places};
 
 use crate::Search;
-use abelian::{FIRST_LETTER, Kind, LETTERS};
+use abelian::{FIRST_LETTER, Kind, LETTERS, store_word};
 use words::{Word, count_letters};
 
 // What is added to an entry, modulo 2^8, where its letter joins the window or leaves it: numbers and no enum, which would be turned back into them.
@@ -17,8 +17,8 @@ const JOINS: u8 = 1;
 
 const LEAVES: u8 = 255;
 
-// The first vector's counts, each less the second's, modulo 2^8. Counts of 8 bits are equal exactly where this is 0. A count may be below the other's here, as none may for the
-// difference of two rows.
+// The first vector's counts, each less the second's, modulo 2^8. Counts of 8 bits are equal exactly where this is 0. It and `words::parts::difference` stay two functions: a count may
+// be below the other's here, and none may there, so that one function for both would promise a number modulo 2^8 to callers that need the difference itself.
 fn subtract(counts: [u8; LETTERS], wanted: [u8; LETTERS]) -> [u8; LETTERS]
     ensures { result ≡ excess counts wanted }
 {
@@ -36,8 +36,8 @@ fn count_nonzero(entries: [u8; LETTERS]) -> usize
     entries.iter().filter(|entry| **entry != 0).count()
 }
 
-// Adds to one entry, modulo 2^8, and returns how many entries are not 0 then, by how many were not before. The number is handed on beside the entries: in a struct
-// with them it lies in memory, as they do, and a call takes up to twice as long.
+// Adds to one entry, modulo 2^8, and returns how many entries are not 0 then, by how many were not before. The number is handed on beside the entries: a struct of both was tried,
+// in which it lies in memory, as they do, and a call took up to twice as long.
 fn change(entries: &mut [u8; LETTERS], differing: usize, place: usize, by: u8) -> usize
     requires entries_len { (length entries.old ≡ alphabet_size) × (place < alphabet_size) }
     requires differing_value { differing ≡ nonzero entries.old }
@@ -50,18 +50,18 @@ fn change(entries: &mut [u8; LETTERS], differing: usize, place: usize, by: u8) -
     differing + (before == 0) as usize - (after == 0) as usize
 }
 
-// Writes the word of a start to a place of the slice, where the slice has it. The place is counted on where it has not, so that it is no part of the slice.
-fn note(out: &mut [u32], place: usize, start: usize)
+// The output word of a window: its kind, and its start below.
+#[tactic(auto, unfolding(abelian::specs::Windows::longest_record, abelian::specs::Output::window_word))]
+fn window_word(start: usize) -> u32
     requires { start ≤ longest_record }
-    ensures { out.new ≡ slice_set out.old place (window_word start) }
+    ensures { result ≡ window_word start }
 {
-    if place < out.len() {
-        out[place] = Kind::Window.word() + start as u32;
-    }
+    Kind::Window.word() + start as u32
 }
 
 // Slides a window over the record, writes the words of the starts that are the pattern's, as many as there are places for, to the first places of the slice, and
-// returns how many there are in all. Between two steps the entries are those of the window but for its last letter.
+// returns how many there are in all. Between two steps the entries are those of the window but for its last letter. A window's place is counted on where the slice has no more,
+// so that it is no part of the slice.
 pub(crate) fn slide(search: &Search, out: &mut [u32]) -> usize
     ensures readable { Readable search.now.pattern search.now.events }
     ensures value { result ≡ length (window_words search.now.pattern search.now.events) }
@@ -81,7 +81,7 @@ pub(crate) fn slide(search: &Search, out: &mut [u32]) -> usize
         let joins = (events[at + rest] as usize) - (FIRST_LETTER as usize);
         differing = change(&mut entries, differing, joins, JOINS);
         if differing == 0 {
-            note(out, found, at + 1);
+            store_word(out, found, window_word(at + 1));
             found += 1;
         }
         let leaves = (events[at] as usize) - (FIRST_LETTER as usize);

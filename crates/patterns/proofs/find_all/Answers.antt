@@ -1,17 +1,9 @@
 -- `patterns::find_all` meets its contract: the totals of the empty beginning are one 0.
-use Rattle.std.proofs.Common.{ℕ, List, length, ap, ◌∙◌, arith, rules}
-use Rattle.abelian.specs.Patterns.{longest_square_free, pattern_words}
+use Rattle.std.proofs.Common.{ℕ, List, length, ap, ◌∙◌, arith}
+use Rattle.abelian.specs.Patterns.{pattern_words}
 use Rattle.patterns.specs.Search.{Searched, stored}
 use Rattle.patterns.proofs.Found.{no_letters_numbered, found_begun}
 use Rattle.patterns.proofs.find_all.Goals as goal
-
-pub overflow_add-to : goal.overflow_add-to
-unfolding longest_square_free
-overflow_add-to c = search rules
-
-pub slice_bounds-totals-end : goal.slice_bounds-totals-end
-unfolding longest_square_free
-slice_bounds-totals-end c = search rules
 
 pub search-requires-clause-numbered : goal.search-requires-clause-numbered
 search-requires-clause-numbered c = no_letters_numbered c.sizes.inside.length.0 c.sizes.invariant.1

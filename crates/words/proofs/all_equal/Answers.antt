@@ -1,13 +1,8 @@
 -- `words::all_equal` meets its contract: the loop stops at a letter that differs from the first.
-use Rattle.std.proofs.Common.{rules, arith, sym, ◌∙◌}
+use Rattle.std.proofs.Common.{arith, sym, ◌∙◌}
 use borrow.Author.Tests.{ne_eqb, eq-eqb}
-use Rattle.abelian.specs.Words.{all_equal}
 use Rattle.words.proofs.Equal.{differs_here, equal_later, all_passed}
 use Rattle.words.proofs.all_equal.Goals as goal
-
-pub loop-letter-init : goal.loop-letter-init
-unfolding all_equal
-loop-letter-init c = search rules
 
 pub returns-then-letter-word : goal.returns-then-letter-word
 returns-then-letter-word c =

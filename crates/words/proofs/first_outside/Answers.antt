@@ -2,13 +2,8 @@
 use Rattle.std.proofs.Common.{rules, ap, sym, ◌∙◌, arith}
 use native.Mathlib.Numerals.{add-one}
 use Rattle.abelian.specs.Lists.{nonzero}
-use Rattle.abelian.specs.Words.{first_outside}
 use Rattle.words.proofs.Outside.{outside_here, outside_later, outside_none}
 use Rattle.words.proofs.first_outside.Goals as goal
-
-pub loop-i-init : goal.loop-i-init
-unfolding first_outside
-loop-i-init c = search rules
 
 pub returns-then-not-is_letter : goal.returns-then-not-is_letter
 returns-then-not-is_letter c =

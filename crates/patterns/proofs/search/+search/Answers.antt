@@ -18,7 +18,7 @@ pub returns-then-last-eq0 : goal.returns-then-last-eq0
 unfolding found stored pattern_word
 returns-then-last-eq0 t c =
     let none_left : c.args.left.0 ≡ 0 = omega arith in
-    rw none_left (record { value = refl; totals_unchanged = refl; out_after = c.store.ensures ∙ ap (λ (kind : ℕ). set c.args.out.now c.args.at (kind + c.args.number)) c.word.ensures })
+    rw none_left (record { value = refl; totals_unchanged = refl; out_after = c.store_word.ensures ∙ ap (λ (kind : ℕ). set c.args.out.now c.args.at (kind + c.args.number)) c.word.ensures })
 
 pub overflow_cast-base : goal.overflow_cast-base
 unfolding largest_alphabet

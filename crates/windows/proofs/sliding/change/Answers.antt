@@ -1,7 +1,8 @@
 -- `windows::sliding::change` meets its contract: the entry that is changed is the only one that may have become 0 or ceased to be.
 use Rattle.std.proofs.Common.{◌+◌, ◌%◌, eqb, get_or, arith}
 use Rattle.abelian.specs.Words.{alphabet_size}
-use Rattle.windows.proofs.Excess.{flag_or_not, nonzero-le, nonzero_at, nonzero-set}
+use Rattle.words.proofs.OneMore.{flag_or_not}
+use Rattle.windows.proofs.Excess.{nonzero-le, nonzero_at, nonzero-set}
 use Rattle.windows.proofs.sliding.change.Goals as goal
 
 pub overflow_add-result : goal.overflow_add-result

@@ -1,5 +1,5 @@
 -- `windows::sliding::slide` meets its contract: the laws of `Slides`, step by step.
-use Rattle.std.proofs.Common.{◌≡◌, [], length, List, ℕ, sym, ap, subst, ◌∙◌, arith}
+use Rattle.std.proofs.Common.{◌≡◌, [], length, set, List, ℕ, sym, ap, subst, ◌∙◌, arith}
 use Rattle.abelian.specs.Words.{first_letter, vector}
 use Rattle.abelian.specs.Windows.{window_words}
 use Rattle.windows.specs.Sliding.{Sought, Readable, fill_places}
@@ -56,7 +56,7 @@ loop-at-preserved c =
     let joined = c.change-differing.ensures in
     let left = c.change-differing-in-loop-at.ensures in
     elim c.if-differing-eq0.branch [
-      | then-differing-eq0 w ↦ noted_on h (omega arith) joined.entries_after joined.value left.entries_after left.value w.if-differing-eq0.true w.found-is (w.out-is ∙ w.note.ensures)
+      | then-differing-eq0 w ↦ noted_on h (omega arith) joined.entries_after joined.value left.entries_after left.value w.if-differing-eq0.true w.found-is (w.out-is ∙ w.store_word.ensures ∙ ap (set c.loop-at.out c.loop-at.found) w.window_word.ensures)
       | else-differing-eq0 w ↦ passed_on h (omega arith) joined.entries_after joined.value left.entries_after left.value w.if-differing-eq0.false w.found-is w.out-is
     ]
 

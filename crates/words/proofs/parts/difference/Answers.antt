@@ -1,14 +1,10 @@
 -- `words::parts::difference` meets its contract: one place more has the difference of the counts there.
-use Rattle.std.proofs.Common.{rules, ◌<◌, sym, ◌∙◌, arith, below_more, length, length-set, get_or-set_other, get_or-set_same}
+use Rattle.std.proofs.Common.{◌<◌, sym, ◌∙◌, arith, below_more, length, length-set, get_or-set_other, get_or-set_same}
 use lib.Seq.{ext_get_or}
 use Rattle.words.specs.Prefixes.{width}
 use Rattle.words.specs.Differences.{minus}
 use Rattle.words.proofs.Pairwise.{none_above_at, minus_at, length-minus}
 use Rattle.words.proofs.parts.difference.Goals as goal
-
-pub loop-j-init : goal.loop-j-init
-unfolding width
-loop-j-init c = search rules
 
 pub overflow_sub-counts : goal.overflow_sub-counts
 overflow_sub-counts c = none_above_at c.args.shorter c.args.longer c.requires c.loop-j.j (omega arith)
