@@ -1,18 +1,20 @@
 -- Laws of the number of places at which two vectors differ, and of a vector with one letter more.
 use mathlib.Core.Path.{◌≡◌, refl, sym, ◌∙◌}
 use mathlib.Core.Bool.{Bool, true, false, not, ◌&&◌}
-use mathlib.Core.Logic.{◌≢◌, ⊎_elim}
+use mathlib.Core.Logic.{⊎_elim}
 use mathlib.Core.List.{List, [], ◌∷◌, ◌++◌}
 use Prim.Native.Nat.{ℕ, zero, suc, ◌+◌, ◌-◌, ◌≤◌, ◌<◌}
 use native.Mathlib.Omega.{arith}
 use lib.ListN.{length, take, drop, get_or, set}
 use lib.Seq.{drop-cons}
 use lib.Dec.{T, eqb}
+use mir.Val.{bool_byte}
 use borrow.Author.Tests.{eqb-true, eqb-false, eq-eqb, ne_eqb}
 use Rattle.abelian.specs.Lists.{one, same}
 use Rattle.abelian.specs.Words.{alphabet_size, first_letter, of_letters, vector}
 use Rattle.abelian.proofs.Tests.{decided}
 use Rattle.abelian.proofs.Counts.{count-append, count-le-length, counts_vector}
+use Rattle.words.proofs.OneMore.{flag_or_not}
 use Rattle.words.proofs.Vectors.{vector_at, letter_at, vector-more, vector-take-more}
 use Rattle.covers.specs.Differing.{differing, count_of, one_more}
 
@@ -22,17 +24,10 @@ use Rattle.covers.specs.Differing.{differing, count_of, one_more}
 abbrev unlike : ℕ → ℕ → ℕ
 unlike a b = one (not (eqb a b))
 
-unlike_equal : (a b : ℕ) → a ≡ b → unlike a b ≡ 0
-unlike_equal a b e = rw (eq-eqb a b e)
-
-unlike_unequal : (a b : ℕ) → a ≢ b → unlike a b ≡ 1
-unlike_unequal a b n = rw (ne_eqb a b n)
-
 unlike_sym : (a b : ℕ) → unlike a b ≡ unlike b a
 unlike_sym a b =
-    ⊎_elim (λ (e : eqb a b ≡ true). unlike_equal a b (eqb-true a b e) ∙ sym (unlike_equal b a (sym (eqb-true a b e))))
-    (λ (e : eqb a b ≡ false). unlike_unequal a b (eqb-false a b e) ∙ sym (unlike_unequal b a (λ q. eqb-false a b e (sym q))))
-    (decided (eqb a b))
+    ⊎_elim (λ (e : eqb a b ≡ true). rw (e, eq-eqb b a (sym (eqb-true a b e))) refl)
+    (λ (e : eqb a b ≡ false). rw (e, ne_eqb b a (λ q. eqb-false a b e (sym q))) refl) (decided (eqb a b))
 
 -- two vectors differ at as many places whichever comes first
 pub differing_sym : (u v : List ℕ) → differing u v ≡ differing v u
@@ -80,23 +75,14 @@ differing-set (a ∷ u) (b ∷ v) (suc j) x h l = omega (arith, differing-set u 
 
 -- ---- one letter more
 
--- one more of a letter in the first vector, where both have a place for it
-module _ (u v : List ℕ) (x : ℕ) (h : x - first_letter < length u) (l : x - first_letter < length v) where
-  changed : differing (one_more u x) v + unlike (count_of u x) (count_of v x) ≡ differing u v + unlike (count_of u x + 1) (count_of v x)
-  unfolding one_more
-  changed = differing-set u v (x - first_letter) (count_of u x + 1) h l
-
-  -- equal counts become unequal
-  pub equal_parts : count_of u x ≡ count_of v x → differing (one_more u x) v ≡ differing u v + 1
-  equal_parts e = omega (arith, changed, unlike_equal (count_of u x) (count_of v x) e, unlike_unequal (count_of u x + 1) (count_of v x) (λ q. omega arith))
-
-  -- unequal counts become equal
-  pub unequal_meets : count_of u x + 1 ≡ count_of v x → differing (one_more u x) v + 1 ≡ differing u v
-  unequal_meets e = omega (arith, changed, unlike_equal (count_of u x + 1) (count_of v x) e, unlike_unequal (count_of u x) (count_of v x) (λ q. omega arith))
-
-  -- unequal counts stay unequal
-  pub unequal_stays : count_of u x ≢ count_of v x → count_of u x + 1 ≢ count_of v x → differing (one_more u x) v ≡ differing u v
-  unequal_stays n m = omega (arith, changed, unlike_unequal (count_of u x) (count_of v x) n, unlike_unequal (count_of u x + 1) (count_of v x) m)
+-- One more of a letter in the first vector, where both have a place for it: the number falls by 1 where the letter's counts have become equal, and rises by 1 where they were
+-- equal before.
+pub differing-one_more : (u v : List ℕ) (x : ℕ) → x - first_letter < length u → x - first_letter < length v
+    → differing (one_more u x) v + bool_byte (eqb (count_of u x + 1) (count_of v x)) ≡ differing u v + bool_byte (eqb (count_of u x) (count_of v x))
+unfolding one_more
+differing-one_more u v x h l =
+    omega
+    (arith, differing-set u v (x - first_letter) (count_of u x + 1) h l, flag_or_not (eqb (count_of u x) (count_of v x)), flag_or_not (eqb (count_of u x + 1) (count_of v x)))
 
 -- a letter in front of the others is one count more
 pub vector_in_front : (u : List ℕ) (x : ℕ) → first_letter ≤ x → x < first_letter + alphabet_size → one_more (vector u) x ≡ vector (x ∷ u)

@@ -13,7 +13,8 @@ use words::{Word, check_word};
 
 // Counts one more of the letter, and returns at how many letters the two vectors differ then, from the number before: only this
 // letter's counts can have become unequal or equal.
-// The vectors and the number are parameters and no struct, since the two calls for a turn exchange the vectors.
+// The vectors and the number are parameters and no struct, since the two calls for a turn exchange the vectors. It and `change` of `windows` stay two functions:
+// one for both would be handed the rule of the entries too, since there an entry is a difference modulo 2^8, and is compared with 0.
 fn count_letter(
     counts: &mut [u8; LETTERS],
     other: &[u8; LETTERS],
@@ -29,13 +30,7 @@ fn count_letter(
     let after = before + 1;
     counts[place] = after;
     let unchanged = other[place];
-    if before == unchanged {
-        return differ + 1;
-    }
-    if after == unchanged {
-        return differ - 1;
-    }
-    differ
+    differ + (before == unchanged) as usize - (after == unchanged) as usize
 }
 
 // The cover length of the word, if it has one. The first and the last m letters have equal vectors exactly where the first and the last n - m

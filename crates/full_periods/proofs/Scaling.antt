@@ -1,7 +1,7 @@
 -- Laws of the scaled path: of its two loops, the running counts with the scaled positions up to a letter and the full periods below a multiple of s; and of what the
 -- functions on the way give.
 use mathlib.Core.Path.{◌≡◌, sym, ap, ap₂, subst, ◌∙◌}
-use mathlib.Core.Bool.{true, false}
+use mathlib.Core.Bool.{Bool, true, false}
 use mathlib.Core.Logic.{⊎_elim, ◌≢◌}
 use mathlib.Core.List.{List, []}
 use Prim.Native.Nat.{ℕ, suc, ◌+◌, ◌-◌, ◌*◌, ◌/◌, ◌%◌, ◌≤◌, ◌<◌, ◌∣◌}
@@ -207,10 +207,9 @@ module _ {w : List ℕ} {s : ℕ} (g : Given w s) {marks : List ℕ} {p : ℕ} (
   marked_end l = marking_end (is_full w) marks p h.table (λ k a. above_half_not_full w k (omega arith))
 
   -- what the multiples of a divisor say
-  pub tried : {positions : List ℕ} → positions ≡ scaled_marks w → p + p ≤ length w → length w % p ≡ 0 → marks_multiples positions (length w) p ≡ is_full w p
-  tried e l d =
-      ap (λ (table : List ℕ). marks_multiples table (length w) p) e
-      ∙ multiples_full w g.word.all g.some g.word.short p (dvd_of_mod-eq-zero p d) (omega (arith, h.from))
+  pub tried : {n m : ℕ} {positions : List ℕ} {b : Bool} → n ≡ length w → m ≡ length w → positions ≡ scaled_marks w → p + p ≤ length w → n % p ≡ 0 → b ≡ marks_multiples positions m p → is_full w p ≡ b
+  tried {b = b} n m e l d r =
+      sym (rw (m, e) at r ∙ multiples_full w g.word.all g.some g.word.short p (dvd_of_mod-eq-zero p (rw n at d)) (omega (arith, h.from)))
 
 -- ---- the path
 

@@ -32,7 +32,7 @@ pub fn list_full(word: &[u8], out: &mut [u32]) -> Result<usize, Refusal>
 }
 
 // Writes the full periods by rising p, found by the scaled positions, and answers how many words it wrote, s and T. It and the plain list stay two
-// functions, as the two counts do: the scaled list answers s and T too, so that one function over both would be no shorter.
+// functions, and so do the two counts: the scaled list answers s and T too, and each path makes its own marks with their step, so that one function over both would be no shorter.
 pub fn list_full_scaled(word: &[u8], out: &mut [u32]) -> Result<Scaled, Refusal>
     ensures { answered_scaled result out.new ≡ scaled_listing word.now out.old }
 {

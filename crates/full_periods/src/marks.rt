@@ -1,5 +1,5 @@
 // Tables of marks: one entry for each number from 0 to the longest word's length, 1 where the number is marked and 0 where not.
-// They are bytes and no bools, since the contracts state a table as a list of numbers.
+// They are bytes and no bools, since the definitions `full_marks` and `scaled_marks` state a table as numbers.
 ghost use Rattle.std.specs.Prelude.{◌≡◌, map, ◌≤◌, length};
 ghost use Rattle.abelian.specs.Words.{longest};
 ghost use Rattle.abelian.specs.Lists.{largest};
@@ -10,7 +10,7 @@ ghost use Rattle.full_periods.specs.Marks.{Steps, Listed, marked, marks_multiple
 use abelian::{Kind, Period, Refusal, output_word};
 use words::ROWS;
 
-// The output word of a full period: its kind, the period above, and below how often it goes into n.
+// The output word of a full period: its kind, the period above, and below how often it goes into n, which is the length of a word that is not at hand here.
 fn full_word(period: Period, n: usize) -> u32
     requires le_period { 1 ≤ period.0 }
     requires period_le_longest { period.0 ≤ longest }
@@ -21,8 +21,9 @@ fn full_word(period: Period, n: usize) -> u32
     output_word(Kind::Full, p, n / p)
 }
 
-// A table of which only the multiples of a step are looked at: no other number up to n is marked, and n is a multiple too. The empty word's step is 0. Each method goes through the multiples by a loop of its own,
-// since Rattle has no `impl Trait` as a result by which they could be handed out.
+// A table in which no number up to n is marked that is not a multiple of the step, and n is a multiple too. The empty word's step is 0. `count`, `write` and `greatest_distance` look at
+// the multiples alone, each by a loop of its own: one method that hands them out as a `StepBy<Range<usize>>` was tried and is proved, but that type's `next` goes through each number passed
+// over, and the scaled list and count took 1.09 and 1.08 times as long at 240 letters.
 #[derive(Drop)]
 pub(crate) struct Marked<'a> {
     pub marks: &'a [u8; ROWS],
@@ -90,19 +91,18 @@ impl<'a> Marked<'a> {
         }
         greatest
     }
-}
 
-// Whether every multiple of the period up to n is marked.
-pub(crate) fn marks_multiples(marks: &[u8; ROWS], n: usize, period: Period) -> bool
-    requires n_le_longest { n ≤ longest }
-    requires le_period { 1 ≤ period.0 }
-    ensures { result ≡ marks_multiples marks.now n period.0 }
-{
-    let p = period.0;
-    for k in (p..n + 1).step_by(p) {
-        if marks[k] != 1 {
-            return false;
+    // Whether every multiple of the period up to n is marked.
+    pub(crate) fn marks_multiples(&self, period: Period) -> bool
+        requires { 1 ≤ period.0 }
+        ensures { result ≡ marks_multiples self.now.marks.now self.now.n period.0 }
+    {
+        let p = period.0;
+        for k in (p..self.n + 1).step_by(p) {
+            if self.marks[k] != 1 {
+                return false;
+            }
         }
+        true
     }
-    true
 }

@@ -1,13 +1,13 @@
 // The scaled path of document 002: with g the greatest common divisor of the letter counts and s = n / g, a full period is a multiple
 // of s, and every multiple of it is a scaled position.
-ghost use Rattle.std.specs.Prelude.{◌≡◌, ◌≤◌};
+ghost use Rattle.std.specs.Prelude.{◌≡◌, ◌≤◌, length};
 ghost use Rattle.abelian.specs.FullPeriods.{scale, scaled_gap};
 ghost use Rattle.full_periods.specs.Marks.{full_marks, scaled_marks};
 ghost use Rattle.full_periods.specs.Divisors.{unit_counts};
 ghost use Rattle.full_periods.specs.Paths.{scaled_path};
 
 use crate::counts::{count_divisor, divide, is_multiple};
-use crate::marks::{Marked, marks_multiples};
+use crate::marks::Marked;
 use abelian::{FIRST_LETTER, LETTERS, Period};
 use words::parts::count_more;
 use words::{ROWS, Word, count_letters};
@@ -51,21 +51,23 @@ fn mark_scaled(word: &Word, s: usize, unit: [u8; LETTERS]) -> [u8; ROWS]
     marks
 }
 
-// The table of the full periods: of the multiples of s from s times T on those that divide n and whose multiples are all scaled. None is
-// above n / 2, since two blocks fit the word. The plain path's `mark_full` has another range and another test, and the contract of a closure for the
+// The table of the full periods: of the multiples of s, the positions' step, from s times T on those that divide n and whose multiples are all
+// scaled positions. None is above n / 2, since two blocks fit the word. The plain path's `mark_full` has another range and another test, and the contract of a closure for the
 // test would be as long as this loop.
-fn mark_full(word: &Word, s: usize, t: usize, positions: &[u8; ROWS]) -> [u8; ROWS]
-    requires le_s { 1 ≤ s }
-    requires s_value { s ≡ scale word.now }
+fn mark_full(word: &Word, t: usize, positions: &Marked) -> [u8; ROWS]
+    requires n_value { positions.now.n ≡ length word.now }
+    requires le_s { 1 ≤ positions.now.step }
+    requires s_value { positions.now.step ≡ scale word.now }
     requires t_value { t ≡ scaled_gap word.now }
-    requires positions_value { positions.now ≡ scaled_marks word.now }
+    requires positions_value { positions.now.marks.now ≡ scaled_marks word.now }
     ensures { result ≡ full_marks word.now }
 {
     let n = word.len();
+    let s = positions.step;
     let mut marks = [0u8; ROWS];
     let lowest = s * t;
     for p in (lowest..n / 2 + 1).step_by(s) {
-        if n % p == 0 && marks_multiples(positions, n, Period(p)) {
+        if n % p == 0 && positions.marks_multiples(Period(p)) {
             marks[p] = 1;
         }
     }
@@ -95,6 +97,6 @@ pub(crate) fn find_path(word: &Word) -> ScaledPath
         step: s,
     };
     let t = marked.greatest_distance() / s;
-    let marks = mark_full(word, s, t, &positions);
+    let marks = mark_full(word, t, &marked);
     ScaledPath { s, t, marks }
 }

@@ -18,8 +18,7 @@ pub(crate) enum Side {
     Behind,
 }
 
-// Where the whole blocks end that begin with the square at a start: as long as a square stands one block further on, there is one block more. The
-// candidates are passed in steps of a block and not to their end, so that no `for` fits.
+// Where the whole blocks end that begin with the square at a start: as long as a square stands one block further on, there is one block more.
 pub(crate) fn run_end(row: &Row, start: usize) -> usize
     requires in_bounds { (1 ≤ start) × (start ≤ length row.now.marks.now) }
     requires t { T (is_square row.now.word.now row.now.period start) }
@@ -28,8 +27,11 @@ pub(crate) fn run_end(row: &Row, start: usize) -> usize
     let marks = row.marks;
     let period = row.period;
     let mut last = start;
-    while last + period <= marks.len() && marks[last + period - 1] == 1 {
-        last += period;
+    for next in (start + period..marks.len() + 1).step_by(period) {
+        if marks[next - 1] != 1 {
+            break;
+        }
+        last = next;
     }
     last - 1 + 2 * period
 }

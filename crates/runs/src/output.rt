@@ -41,8 +41,8 @@ fn write_run(row: &Row, start: usize, out: &mut [u32])
     out[1] = hands_word(end, left, right);
 }
 
-// Writes the words of the runs of one block length into the first places of the slice, and returns how many they are. They are counted by a loop of their own before, since a
-// slice that is too short stays as it came.
+// Writes the words of the runs of one block length into the first places of the slice, and returns how many they are. They are counted by a loop of their own before, since by
+// `run_listing` a slice that is too short stays as it came.
 fn write_row(row: &Row, out: &mut [u32]) -> usize
     requires { length (row_words row.now.word.now row.now.period) ≤ length out.old }
     ensures value { result ≡ length (row_words row.now.word.now row.now.period) }

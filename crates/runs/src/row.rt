@@ -19,7 +19,7 @@ pub(crate) struct Row<'a> {
 }
 
 impl<'a> Row<'a> {
-    // Those of a block length among the candidates of a word.
+    // Those of a block length, by its number as `of_half` takes it, among the candidates of a word.
     pub fn of(marked: &Marked<'a>, period: usize) -> Row<'a>
         requires positive { 1 ≤ period }
         requires in_bounds { 2 * period ≤ length marked.now.word.now }

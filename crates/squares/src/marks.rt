@@ -1,5 +1,6 @@
 // Marks of the candidates of a word, by half length and then by start: 1 where the two halves have equal count vectors, 0 where they
-// differ; they are bytes and no bools, since they are added up and compared in vectors. The vectors are differences of the rows of the table of prefix counts, so that no letter is counted anew.
+// differ; they are bytes and no bools, since the definitions `start_marks` and `square_marks` state them as numbers. The vectors are differences of the rows of the table of prefix
+// counts, so that no letter is counted anew. A half length goes by its number, with what it has to meet asked anew: a type for it would be made and taken apart again at each call.
 ghost use Rattle.std.specs.Prelude.{◌≡◌, ◌+◌, ◌*◌, ◌≤◌, length, take};
 ghost use Rattle.abelian.specs.Lists.{one};
 ghost use Rattle.abelian.specs.Output.{fill};

@@ -8,7 +8,8 @@ ghost use Rattle.squares.specs.Marks.{marked_starts};
 use crate::marks::Marked;
 use abelian::{Kind, output_word};
 
-// Writes the words of the marked starts of one half length into the first places of the slice, and returns how many they are.
+// Writes the words of the marked starts of one half length into the first places of the slice, and returns how many they are. The board's rows are written by a loop of their own, of
+// entries that are 0: one for both would take the entry, and the word as a closure, and be no plainer.
 fn write_starts(half: usize, marks: &[u8], out: &mut [u32]) -> usize
     requires half_le_longest { half ≤ longest }
     requires marks_len_bound { length marks.now ≤ longest }
@@ -26,7 +27,8 @@ fn write_starts(half: usize, marks: &[u8], out: &mut [u32]) -> usize
     at
 }
 
-// Writes the words of all squares into the first places of the slice, each half length's behind those of the smaller ones.
+// Writes the words of all squares into the first places of the slice, each half length's behind those of the smaller ones. `runs` has such a loop over what it writes: a closure's contract
+// would be as long.
 pub(crate) fn write_squares(marked: &Marked, out: &mut [u32])
     requires { length (square_words marked.now.word.now) ≤ length out.old }
     ensures { out.new ≡ fill (square_words marked.now.word.now) out.old }

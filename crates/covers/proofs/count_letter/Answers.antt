@@ -4,10 +4,12 @@ use mathlib.Core.List.{List}
 use Prim.Native.Nat.{ℕ, ◌+◌, ◌-◌, ◌≤◌, ◌<◌}
 use native.Mathlib.Omega.{arith}
 use lib.ListN.{length}
+use lib.Dec.{eqb}
 use Rattle.abelian.specs.Words.{alphabet_size, first_letter, longest}
 use Rattle.abelian.proofs.Counts.{letter_bounds}
-use Rattle.covers.specs.Differing.{one_more, CanCount}
-use Rattle.covers.proofs.Differing.{differing-le-length, equal_parts, unequal_meets, unequal_stays}
+use Rattle.words.proofs.OneMore.{byte_le_1}
+use Rattle.covers.specs.Differing.{count_of, one_more, CanCount}
+use Rattle.covers.proofs.Differing.{differing-le-length, differing-one_more}
 use Rattle.covers.proofs.count_letter.Goals as goal
 
 -- the letter is one, and both vectors have a place for it
@@ -43,34 +45,18 @@ unfolding first_letter alphabet_size
 bounds-other-place c = omega (arith, placed c.requires)
 
 pub overflow_add-result : goal.overflow_add-result
-unfolding alphabet_size
-overflow_add-result c = omega (arith, c.requires, differing-le-length c.args.counts.now c.args.other.now)
-
-pub returns-then-before-unchanged-clause-counts_after : goal.returns-then-before-unchanged-clause-counts_after
-unfolding one_more first_letter
-returns-then-before-unchanged-clause-counts_after c = refl
-
-pub returns-then-before-unchanged-clause-value : goal.returns-then-before-unchanged-clause-value
-unfolding one_more first_letter
-returns-then-before-unchanged-clause-value c =
-    let p = placed c.requires in
-    omega (arith, c.requires.number, equal_parts c.args.counts.now c.args.other.now c.args.letter p.here p.there c.if-before-unchanged.true)
+unfolding first_letter alphabet_size
+overflow_add-result c =
+    let u = c.args.counts.now in
+    let v = c.args.other.now in
+    let x = c.args.letter in
+    omega (arith, c.requires, differing-le-length u v, byte_le_1 (eqb (count_of u x) (count_of v x)))
 
 pub overflow_sub-result : goal.overflow_sub-result
 unfolding first_letter
 overflow_sub-result c =
     let p = placed c.requires in
-    omega (arith, c.requires.number, unequal_meets c.args.counts.now c.args.other.now c.args.letter p.here p.there c.if-after-unchanged.true)
-
-pub returns-then-after-unchanged-clause-counts_after : goal.returns-then-after-unchanged-clause-counts_after
-unfolding one_more first_letter
-returns-then-after-unchanged-clause-counts_after c = refl
-
-pub returns-then-after-unchanged-clause-value : goal.returns-then-after-unchanged-clause-value
-unfolding one_more first_letter
-returns-then-after-unchanged-clause-value c =
-    let p = placed c.requires in
-    omega (arith, c.requires.number, unequal_meets c.args.counts.now c.args.other.now c.args.letter p.here p.there c.if-after-unchanged.true)
+    omega (arith, c.requires.number, differing-one_more c.args.counts.now c.args.other.now c.args.letter p.here p.there)
 
 pub returns-clause-counts_after : goal.returns-clause-counts_after
 unfolding one_more first_letter
@@ -80,5 +66,4 @@ pub returns-clause-value : goal.returns-clause-value
 unfolding one_more first_letter
 returns-clause-value c =
     let p = placed c.requires in
-    omega
-    (arith, c.requires.number, unequal_stays c.args.counts.now c.args.other.now c.args.letter p.here p.there c.if-before-unchanged.false c.if-after-unchanged.false)
+    omega (arith, c.requires.number, differing-one_more c.args.counts.now c.args.other.now c.args.letter p.here p.there)

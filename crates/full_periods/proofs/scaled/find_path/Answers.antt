@@ -33,6 +33,7 @@ pub mark_full-marks-requires : goal.mark_full-marks-requires
 mark_full-marks-requires c =
     let g = path_given c.len-n.ensures.word c.count_letters-counts.ensures c.count_divisor-g.ensures c.len-n.ensures.value c.if-g-eq0.false in
     record {
+      n_value = c.len-n.ensures.value;
       le_s = step_positive g;
       s_value = g.scale_is;
       t_value = path_gap c.len-n.ensures.word c.count_letters-counts.ensures c.count_divisor-g.ensures c.len-n.ensures.value c.if-g-eq0.false c.mark_scaled-positions.ensures c.greatest_distance.ensures;
