@@ -1,4 +1,4 @@
--- Laws of the loop over the heads of a period: where it reads and writes, and what each of its three ways leaves.
+-- Laws of the loop over the heads of a period: its row is a part of the board, and what each of its three ways leaves.
 use mathlib.Core.Path.{◌≡◌, sym, ap, ap₂, ◌∙◌}
 use mathlib.Core.Logic.{◌≢◌}
 use mathlib.Core.Bool.{Bool, true, false}
@@ -7,6 +7,7 @@ use Prim.Native.Nat.{ℕ, ◌+◌, ◌-◌, ◌≤◌, ◌<◌}
 use native.Mathlib.Omega.{arith}
 use lib.ListN.{length, set, get_or}
 use lib.Dec.{T}
+use borrow.Rule.Slice.PartMut.{mid_of, put_same, mid_len}
 use Rattle.abelian.specs.Words.{longest}
 use Rattle.abelian.specs.Periods.{Pair, pair, in_range, is_period}
 use Rattle.abelian.specs.Periods
@@ -17,6 +18,7 @@ use Rattle.board.specs.Places.{row_start, place_of, entry_at}
 use Rattle.board.specs.Ending.{row_open, row_ended}
 use Rattle.board.proofs.Places.{board_long}
 use Rattle.board.proofs.Rows.{row_end}
+use Rattle.board.proofs.RowLent.{with_row, row_read, row_stored}
 use Rattle.board.proofs.EndedRows.{below, all_below, open_below, out_of_range_kept, RowGone, no_head_gone, entry_read, head_passed, head_live, head_ended}
 
 -- the row of the period p on a board, for a word of n letters
@@ -36,22 +38,29 @@ module _ {w old : List ℕ} {p n start heads : ℕ} (r : AtPeriod w old p n star
   heads_of_word : heads ≡ Periods.heads (length w) p
   heads_of_word = r.has ∙ ap (λ (k : ℕ). Periods.heads k p) r.letters
 
-  -- its places are on the board
-  pub on_board : (h : ℕ) → h < heads → start + h < 14520
+  -- it lies on the board
+  pub on_board : start + heads ≤ 14520
   unfolding board_size
-  on_board h l = omega (arith, row_end (length w) p r.from r.to r.short, heads_of_word, r.begins)
+  on_board = omega (arith, row_end (length w) p r.from r.to r.short, heads_of_word, r.begins)
 
-  -- and its heads are in range
+  -- with an entry for each of its heads
+  pub row_long : length (mid_of start (start + heads - start) old) ≡ heads
+  row_long = omega (arith, mid_len start (start + heads) old (omega (arith, on_board, r.long)))
+
+  begins_on : start ≤ length old
+  begins_on = omega (arith, on_board, r.long)
+
+  -- which are in range
   range : {h : ℕ} → h < heads → InRange (length w) (pair h p)
   range l = heads-in_range r.from r.to (omega (arith, heads_of_word))
 
   pub head_in_range : (h : ℕ) → h < heads → T (in_range (length w) (pair h p))
   head_in_range h l = range_in (length w) (pair h p) (range l)
 
-  pub first_head : RowGone w old p old 0 0 0
-  first_head = no_head_gone w old p whole
+  pub first_head : RowGone w old p (with_row start heads old (mid_of start (start + heads - start) old)) 0 0 0
+  first_head = rw (put_same start (start + heads - start) old) (no_head_gone w old p whole)
 
-  module _ {board : List ℕ} {tried ended h : ℕ} (g : RowGone w old p board tried ended h) (l : h < heads) where
+  module _ (row : List ℕ) {tried ended h : ℕ} (g : RowGone w old p (with_row start heads old row) tried ended h) (l : h < heads) (m : h < length row) where
     inside : T (in_range longest (pair h p))
     inside = range_in longest (pair h p) (in_range_longer (range l) r.short)
 
@@ -59,30 +68,30 @@ module _ {w old : List ℕ} {p n start heads : ℕ} (r : AtPeriod w old p n star
     unfolding place_of
     at = omega (arith, r.begins)
 
-    entry : get_or board (start + h) 0 ≡ entry_at old (pair h p)
-    entry = ap (λ (k : ℕ). get_or board k 0) at ∙ entry_read w old p whole g (range l) inside
+    entry : get_or row h 0 ≡ entry_at old (pair h p)
+    entry = sym (row_read start heads old row begins_on m) ∙ ap (λ (k : ℕ). get_or (with_row start heads old row) k 0) at ∙ entry_read w old p whole g (range l) inside
 
     -- the pair had ended
-    pub passed_head : get_or board (start + h) 0 ≢ 0 → RowGone w old p board tried ended (h + 1)
+    pub passed_head : get_or row h 0 ≢ 0 → RowGone w old p (with_row start heads old row) tried ended (h + 1)
     passed_head z = head_passed w old p whole g (range l) inside (λ e. z (entry ∙ e))
 
-    module _ (z : get_or board (start + h) 0 ≡ 0) {holds : Bool} (e : holds ≡ is_period w (pair h p)) where
+    module _ (z : get_or row h 0 ≡ 0) {holds : Bool} (e : holds ≡ is_period w (pair h p)) where
       -- it is an Abelian period
-      pub live_head : holds ≡ true → RowGone w old p board (tried + 1) ended (h + 1)
+      pub live_head : holds ≡ true → RowGone w old p (with_row start heads old row) (tried + 1) ended (h + 1)
       live_head t = head_live w old p whole g (range l) inside (sym entry ∙ z) (sym e ∙ t)
 
       -- it is none, and ends
-      pub ended_head : holds ≡ false → RowGone w old p (set board (start + h) n) (tried + 1) (ended + 1) (h + 1)
+      pub ended_head : holds ≡ false → RowGone w old p (with_row start heads old (set row h n)) (tried + 1) (ended + 1) (h + 1)
       ended_head f =
-          let k : RowGone w old p (set board (place_of (pair h p)) (length w)) (tried + 1) (ended + 1) (h + 1) = head_ended w old p whole g (range l) inside (sym entry ∙ z) (sym e ∙ f) in
-          rw (at, r.letters) k
+          let k : RowGone w old p (set (with_row start heads old row) (place_of (pair h p)) (length w)) (tried + 1) (ended + 1) (h + 1) = head_ended w old p whole g (range l) inside (sym entry ∙ z) (sym e ∙ f) in
+          rw (← row_stored start heads old row begins_on m n, at, r.letters) k
 
   -- behind the last head
-  module _ {board : List ℕ} {tried ended h : ℕ} (g : RowGone w old p board tried ended h) (l : h ≡ heads) where
+  module _ (row : List ℕ) {tried ended h : ℕ} (g : RowGone w old p (with_row start heads old row) tried ended h) (l : h ≡ heads) where
     last : h ≡ Periods.heads (length w) p
     last = l ∙ heads_of_word
 
-    pub row_gone : board ≡ row_ended w p old
+    pub row_gone : with_row start heads old row ≡ row_ended w p old
     unfolding row_ended
     row_gone =
         g.gone ∙ ap (λ (k : ℕ). board_of (below (entry_added w) p k old)) last
@@ -92,7 +101,7 @@ module _ {w old : List ℕ} {p n start heads : ℕ} (r : AtPeriod w old p n star
     unfolding row_open Periods.row
     row_tried = g.counted ∙ ap (λ (k : ℕ). length (open_below old p k)) last
 
-    pub row_live : tried - ended ≡ length (row_open (length w) board p)
+    pub row_live : tried - ended ≡ length (row_open (length w) (with_row start heads old row) p)
     unfolding row_open Periods.row
     row_live =
         let left : tried - ended ≡ length (open_below (row_ended w p old) p h) = omega (arith, g.left_open) in

@@ -5,4 +5,5 @@ pub mod RowWritten
 pub mod RowByRow
 pub mod EndedRows
 pub mod EndedBoards
+pub mod RowLent
 pub mod HeadByHead

@@ -18,7 +18,8 @@ pub struct Trials {
 }
 
 // Ends the pairs of one period, and returns how many were tried and how many of them are live. Those that end are counted, and the live ones are
-// the rest: few pairs of a tracker end at a letter, and to count the others took longer.
+// the rest: few pairs of a tracker end at a letter, and to count the others took longer. The loop is over the part of the board that is the row, and the
+// head of each entry goes to the test.
 fn end_row(word: &CountedWord, period: Period, board: &mut [u8; BOARD]) -> Trials
     requires { (1 ≤ period.0) × (period.0 ≤ length word.now) }
     ensures tried_value { result.tried ≡ length (row_open (length word.now) board.old period.0) }
@@ -31,12 +32,11 @@ fn end_row(word: &CountedWord, period: Period, board: &mut [u8; BOARD]) -> Trial
     let heads = row_heads(n, period);
     let mut tried = 0;
     let mut ended = 0;
-    for h in 0..heads {
-        let at = start + h;
-        if board[at] == 0 {
+    for (h, entry) in board[start..start + heads].iter_mut().enumerate() {
+        if *entry == 0 {
             tried += 1;
             if !holds(&word, Head(h), period) {
-                board[at] = n as u8;
+                *entry = n as u8;
                 ended += 1;
             }
         }

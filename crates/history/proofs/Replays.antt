@@ -31,10 +31,6 @@ use Rattle.history.proofs.History.{word_of_lem}
 -- ---- the call of a byte
 
 module _ (b : ℕ) where
-  pub takes_back : b ≡ 45 → Call.take_back ≡ call_of b
-  unfolding call_of
-  takes_back e = rw (eq-eqb b 45 e)
-
   pub clears : b ≡ 33 → Call.clear ≡ call_of b
   unfolding call_of
   clears e = rw (ne_eqb b 45 (λ f. omega arith), eq-eqb b 33 e)

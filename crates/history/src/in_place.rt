@@ -33,7 +33,7 @@ impl From<u8> for Call {
 }
 
 impl Call {
-    // Makes the call on the tracker that is lent.
+    // Makes the call on the tracker that is lent. That the references stay the same is promised here and by `replay` as by the calls of `Fields`, for the reason that stands over it.
     #[tactic(auto, unfolding(crate::specs::Calls::step))]
     fn make(self, fields: &mut Fields) -> Result<(), Refusal>
         ensures same { SameFields fields.old fields.new }

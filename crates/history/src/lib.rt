@@ -1,5 +1,5 @@
 // Histories: lists of calls from a fresh tracker. The claim over every list of calls stands in specs/History.antt, its theorem in
-// proofs/History.antt; here is the call that runs a list of calls, so that the claim is also about code.
+// proofs/History.antt; here is the call that runs a list of calls, so that the claim is also about code. `Fields` is written out there, for the reason that stands over it in `tracker`.
 #![tactic(auto)]
 
 pub mod in_place;
@@ -12,7 +12,7 @@ use abelian::{Refusal, Tracker};
 use tracker::fresh;
 use tracker::in_place::Fields;
 
-// The tracker after a replay, and beside it the numbers of the answer in place, which callers read by name.
+// The tracker after a replay, and beside it the two fields of `ReplayAnswer`, which callers read by name: a field of that type would be no plainer.
 #[derive(Drop)]
 pub struct Replayed {
     pub tracker: Tracker,

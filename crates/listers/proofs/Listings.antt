@@ -104,8 +104,8 @@ periods_listed w out {v} {board} {n} {found} trials a e m q =
     ∙ sym (accepted_listing w out (map period_word (periods w)) (trials w) a)
 
 -- and it has as many words
-pub periods_counted : {w v board : List ℕ} {trials : ℕ} {found : Trials} → v ≡ w → PeriodsLeft v trials found board → found.live ≡ length (period_words w)
-periods_counted {v = v} {board} e p = p.live ∙ open_count v board p.left ∙ ap (λ (u : List ℕ). length (period_words u)) e
+pub periods_counted : {w board : List ℕ} {trials : ℕ} {found : Trials} → PeriodsLeft w trials found board → found.live ≡ length (period_words w)
+periods_counted {w} {board} p = p.live ∙ open_count w board p.left
 
 -- the plain lister's step is one
 pub plain_left : (w : List ℕ) {board after : List ℕ} (found : Trials) → IsWord w → board ≡ zeros → found.tried ≡ length (open_pairs (length w) board)

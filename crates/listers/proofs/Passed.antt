@@ -16,6 +16,8 @@ use Rattle.abelian.proofs.Tests.{is_true}
 use Rattle.abelian.proofs.Pairs.{InRange, range_in, in_range_longer}
 use Rattle.board.specs.Places.{place_of, row_start, entry_at}
 use Rattle.board.specs.Ending.{entry_in_row}
+use Rattle.board.proofs.Places.{place_below}
+use Rattle.board.proofs.RowLent.{with_row, row_read, row_stored}
 use Rattle.board.proofs.EndedBoards.{up_to, next_up_to}
 use Rattle.board.proofs.EndedRows.{below, entry_untouched, next_below}
 use Rattle.listers.specs.Lowest.{lowest_periods}
@@ -40,19 +42,22 @@ module _ (n : ℕ) (lowest : List ℕ) (x : Pair) (e : ℕ) where
   pub below_passed : T (in_range n x) → x.period < get_or lowest x.head 0 → entry_passed n lowest x e ≡ 1
   below_passed r l = rw (in_range_passed r, lt-ltb x.period (get_or lowest x.head 0) l)
 
--- one pair of a row more passed over: its entry, which has not been touched yet, is made anew and stored at its place
-pub next_below_passed : (n p : ℕ) (lowest board now : List ℕ) (h at e : ℕ) → length board ≡ board_size → InRange n (pair h p) → n ≤ longest → at ≡ row_start p + h
-    → now ≡ board_of (below (entry_passed n lowest) p h board) → e ≡ passed_below p (get_or lowest h 0) (get_or now at 0)
-    → set now at e ≡ board_of (below (entry_passed n lowest) p (h + 1) board)
+-- one pair of a row more passed over: its entry, which has not been touched yet, is made anew and stored at its place in the row
+pub next_below_passed : (n p : ℕ) (lowest board row : List ℕ) (start heads h e : ℕ) → length board ≡ board_size → InRange n (pair h p) → n ≤ longest → start ≡ row_start p → h < length row
+    → with_row start heads board row ≡ board_of (below (entry_passed n lowest) p h board) → e ≡ passed_below p (get_or lowest h 0) (get_or row h 0)
+    → with_row start heads board (set row h e) ≡ board_of (below (entry_passed n lowest) p (h + 1) board)
 unfolding place_of
-next_below_passed n p lowest board now h at e long r l a b m =
+next_below_passed n p lowest board row start heads h e long r l a within b m =
     let f = entry_passed n lowest in
     let x = pair h p in
+    let now = with_row start heads board row in
     let t : T (in_range longest x) = range_in longest x (in_range_longer r l) in
     let new = passed_below p (get_or lowest h 0) in
+    let s : start ≤ length board = omega (arith, place_below x t) in
     rw add-one
-    (ap (set now at) m
-    ∙ ap₂ (λ k i. set k i (new (get_or k i 0))) b a
+    (sym (row_stored start heads board row s within e)
+    ∙ ap (set now (start + h)) (m ∙ ap new (sym (row_read start heads board row s within)))
+    ∙ ap₂ (λ k i. set k (i + h) (new (get_or k (i + h) 0))) b a
     ∙ ap (set (board_of (below f p h board)) (place_of x))
     (ap new (entry_untouched f p board long h t)
     ∙ sym (in_range_passed n lowest x (entry_at board x) (range_in n x r)))

@@ -34,7 +34,7 @@ trait Tries {
         ensures { PeriodsLeft word.now (trials word.now) result board.new };
 }
 
-// Every pair in range.
+// Every pair in range. The table is an array of the call and lent, as there is no heap, so that it lies on the stack once.
 struct EachPair;
 
 impl Tries for EachPair {
@@ -48,7 +48,7 @@ impl Tries for EachPair {
 }
 
 // The pairs that document 004's two bounds leave.
-struct EachCandidate;
+pub(crate) struct EachCandidate;
 
 impl Tries for EachCandidate {
     ghost trials = { skipping_trials };
@@ -90,15 +90,24 @@ fn list<L: Tries>(word: &[u8], out: &mut [u32]) -> Result<Listed, Refusal>
     list_open(&board, word.len(), found, out)
 }
 
-// How many words that list has.
+// The number of the word's Abelian periods, which are left open likewise.
 #[tactic(auto, unfolding(abelian::specs::Trackers::board_size))]
+fn number_left<L: Tries>(word: &Word) -> usize
+    ensures { result ≡ length (period_words word.now) }
+{
+    let mut board = [0u8; BOARD];
+    // It tells that the word is one.
+    let _ = word.len();
+    let found = L::end_others(word, &mut board);
+    found.live
+}
+
+// How many words that list has.
 fn count<L: Tries>(word: &[u8]) -> Result<usize, Refusal>
     ensures { answered_needed result ≡ period_count word.now }
 {
     let word = check_word(word)?;
-    let mut board = [0u8; BOARD];
-    let found = L::end_others(&word, &mut board);
-    Ok(found.live)
+    Ok(number_left::<L>(&word))
 }
 
 // Lists all Abelian periods of the word, and tries each pair in range.

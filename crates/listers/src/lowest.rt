@@ -9,12 +9,12 @@ ghost use Rattle.listers.specs.Lowest.{positions, no_positions, greatest_gaps, l
 use abelian::{FIRST_LETTER, Head, LETTERS};
 use words::{CountedWord, ROWS};
 
-// The entry of a head with which no pair is tried: it is above every period. A byte and no `Option`, so that one comparison of bytes tells whether a pair is passed over.
+// The entry of a head with which no pair is tried: it is above every period. A byte and no `Option`: the definitions `untried` and `lowest_periods` state the table as numbers with this one.
 const UNTRIED: u8 = 255;
 
 // Enters the positions of each letter's occurrences into a table of zeros that the caller lends: entry k of a letter's row is the position of
 // its occurrence number k + 1, or 0 where the letter has no more than k. Each letter of the word is read once, since the counts of the
-// letters before it say which occurrence it is. It is a table of bytes, as the definition has it, and of no `Option`s, which would take twice the stack.
+// letters before it say which occurrence it is. It is a table of bytes, as the definition `positions` has it, and of no `Option`s, which would take twice the stack.
 fn find_positions(word: &CountedWord, found: &mut [[u8; ROWS]; LETTERS])
     requires { found.old ≡ no_positions }
     ensures { found.new ≡ positions word.now }

@@ -1,6 +1,6 @@
 // Pairs are passed over: those in range whose period is below the lowest one for their head are closed on the board, so that they are
 // not tried. A length goes by its number, as the board's functions take it.
-ghost use Rattle.std.specs.Prelude.{◌≡◌, ◌≤◌, length};
+ghost use Rattle.std.specs.Prelude.{◌≡◌, ◌≤◌};
 ghost use Rattle.abelian.specs.Words.{longest};
 ghost use Rattle.listers.specs.Passing.{passed_below, row_passed, all_passed};
 
@@ -9,7 +9,7 @@ use board::{row_heads, row_start};
 use words::ROWS;
 
 // The entry of a pair in range: 1 where the period is below the lowest one for the head, and else as it was. On the board, whose entries are bytes, any number but 0 says
-// that the pair is not open.
+// that the pair is not open; the definition `passed_below` states 1.
 fn passed_below(period: u8, lowest: u8, entry: u8) -> u8
     ensures { result ≡ passed_below period lowest entry }
 {
@@ -17,7 +17,7 @@ fn passed_below(period: u8, lowest: u8, entry: u8) -> u8
 }
 
 // Passes over pairs of one period. The entry of each pair in range is stored, also one that stays as it was, so that the loop becomes vector
-// instructions.
+// instructions. It goes over the row's entries with their heads, since by these the lowest periods go.
 fn pass_row(n: usize, period: Period, lowest: &[u8; ROWS], board: &mut [u8; BOARD])
     requires n_le_longest { n ≤ longest }
     requires le_period { (1 ≤ period.0) × (period.0 ≤ n) }
@@ -26,9 +26,8 @@ fn pass_row(n: usize, period: Period, lowest: &[u8; ROWS], board: &mut [u8; BOAR
     let p = period.0 as u8;
     let start = row_start(period);
     let heads = row_heads(n, period);
-    for h in 0..heads {
-        let at = start + h;
-        board[at] = passed_below(p, lowest[h], board[at]);
+    for (h, entry) in board[start..start + heads].iter_mut().enumerate() {
+        *entry = passed_below(p, lowest[h], *entry);
     }
 }
 

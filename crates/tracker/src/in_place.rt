@@ -14,8 +14,8 @@ use board::{count_open, pairs_in_range, write_open};
 use words::is_letter;
 
 // A tracker that is lent: its length, its bytes, its board and its two totals, each by a reference of its own, since C hands over five pointers. Each place that lends one
-// writes it out: behind a function that made it, a caller no longer knows which reference went where. So each call promises too that the references stay the same, which no
-// invariant of one value can say.
+// writes it out: a function that makes it was tried, and behind it a caller no longer knows which reference went where. So each call promises too that the references stay the
+// same, which no invariant of one value can say.
 #[derive(Drop)]
 pub struct Fields<'a> {
     pub len: &'a mut usize,
@@ -87,7 +87,7 @@ impl<'a> Fields<'a> {
 }
 
 // Lists the open pairs in range for the letters held. They are counted before the first word is written, so that a refusal leaves the slice
-// as it came. The fields are lent for reading alone.
+// as it came. The length is handed over, and the bytes and the board are lent for reading, each by itself, as C hands them over.
 pub fn list(
     len: usize,
     bytes: &[u8; LONGEST],
@@ -106,7 +106,7 @@ pub fn list(
     Ok(words)
 }
 
-// How many pairs a list would write. The fields are lent for reading alone.
+// How many pairs a list would write. The three are handed over as for a list.
 pub fn count(len: usize, bytes: &[u8; LONGEST], board: &[u8; BOARD]) -> Result<usize, Refusal>
     ensures { (live ended : ℕ) → as_step (of_fields len bytes.now board.now live ended) (answered_needed result)
         ≡ tracker_count (of_fields len bytes.now board.now live ended) }

@@ -1,5 +1,6 @@
 // The letters that a tracker holds: whether they are letters at all, one more of them, and one less. The last two work on the bytes and the board of a
-// tracker that the caller lends, and return how many pairs are live then. The two come apart: of an array behind a field of a struct the prover does not know the length.
+// tracker that the caller lends, and return how many pairs are live then. The two come apart: one struct of both was tried, and of an array behind a field of a struct the prover
+// does not know the length. How many letters are held goes by its number, as C hands it over.
 ghost use Rattle.std.specs.Prelude.{◌≡◌, ◌+◌, ◌-◌, ◌≤◌, ◌<◌, T, Ok, Err, map, length, take, set};
 ghost use Rattle.abelian.specs.Lists.{pick};
 ghost use Rattle.abelian.specs.Words.{alphabet_size, longest, is_letter, of_letters};
@@ -27,7 +28,7 @@ pub(crate) fn check_held(len: usize, bytes: &[u8; LONGEST]) -> Result<(), Refusa
 }
 
 // Stores the letter at the place behind those that are held, and ends the pairs that are then in range and no Abelian period. The live ones are
-// counted in the same loop.
+// counted in the same loop. The table is an array of this call and lent, as there is no heap: made by a function that hands it back it would lie on the stack twice.
 #[tactic(auto, unfolding(abelian::specs::Words::longest, abelian::specs::Trackers::board_size))]
 pub(crate) fn store_letter(
     bytes: &mut [u8; LONGEST],
@@ -53,7 +54,8 @@ pub(crate) fn store_letter(
     trials.live
 }
 
-// A pair's entry after the letter that made the length has gone: 0 where the pair ended at that length, and else as it was.
+// A pair's entry after the letter that made the length has gone: 0 where the pair ended at that length, and else as it was. Entries are bytes, 0 for a pair that has not ended,
+// and no `Option`s, since C hands over the board.
 fn entry_reopened(entry: u8, len: u8) -> u8
     ensures { result ≡ entry_reopened len entry }
 {

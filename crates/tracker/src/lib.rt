@@ -1,6 +1,6 @@
 // The tracker's calls: a fresh tracker, and five calls on one that is lent; a refused call leaves it as it came. An add, a take-back and a clear lend the
 // tracker's fields to the call in place; a list and a count lend them for reading. The contracts hold of every tracker, also of one that no calls
-// have made.
+// have made. `Fields` is written out at each call, for the reason that stands over it.
 #![tactic(auto)]
 
 pub mod in_place;

@@ -1,8 +1,8 @@
--- `listers::count` meets its contract: the Abelian periods stay open, and are counted.
+-- `listers::count` meets its contract: the number of the Abelian periods of the word that was checked.
+use Rattle.std.proofs.Common.{List, ℕ, length, ap, ◌∙◌}
 use Rattle.std.proofs.lemmas.Result.{err_from_is_err_and}
 use Rattle.abelian.specs.Calls.{period_words, period_count}
 use Rattle.words.proofs.Listings.{refused_count, accepted_count, given_word}
-use Rattle.listers.proofs.Listings.{periods_counted}
 use Rattle.listers.proofs.count.Goals as goal
 
 pub returns-in_err-word : goal.returns-in_err-word
@@ -15,4 +15,4 @@ pub returns : goal.returns
 unfolding period_count
 returns g c =
     let w = c.args.word.now in
-    accepted_count w c.check_word.ensures c.in_ok-word.was (period_words w) (periods_counted (given_word w c.check_word.ensures c.in_ok-word.was) c.end_others-found.ensures)
+    accepted_count w c.check_word.ensures c.in_ok-word.was (period_words w) (c.number_left.ensures ∙ ap (λ (v : List ℕ). length (period_words v)) (given_word w c.check_word.ensures c.in_ok-word.was))

@@ -9,21 +9,18 @@ use Rattle.history.proofs.in_place.replay.Goals as goal
 
 pub loop-byte-init : goal.loop-byte-init
 unfolding clearing
-loop-byte-init c = record {
-  same = search rules;
-  replayed = none_replayed _ (ap (λ (s : Step). s.tracker) c.clear.ensures.step ∙ fresh_empty);
-}
+loop-byte-init c = search (rules, none_replayed, ap (λ (s : Step). s.tracker) c.clear.ensures.step ∙ fresh_empty)
 
 pub overflow_add-refused : goal.overflow_add-refused
 overflow_add-refused c = omega (arith, refused_le _ _ c.loop-byte.invariant.replayed, counted-le c.is_err.result)
 
 pub loop-byte-preserved : goal.loop-byte-preserved
-loop-byte-preserved c = record {
-  same = search rules;
-  replayed =
+loop-byte-preserved c =
+    search (
+      rules,
       next_replayed _ _ c.loop-byte-test.true c.loop-byte.invariant.replayed _ _ (c.make-outcome.ensures.step ∙ ap (step (lent c.loop-byte.fields)) c.from.ensures)
-      (refused_counts c.make-outcome.result c.is_err.result c.is_err.ensures.value);
-}
+          (refused_counts _ _ c.is_err.ensures.value),
+    )
 
 pub returns-clause-replayed : goal.returns-clause-replayed
 returns-clause-replayed c = all_replayed _ _ _ c.loop-byte.invariant.replayed (omega arith) _ (c.list-wrote.ensures _ _)
