@@ -1,5 +1,5 @@
 // The program's answer: from the bytes of the input to the bytes of the output.
-ghost use Rattle.std.specs.Prelude.{◌≡◌, ◌≤◌, length, take};
+ghost use Rattle.std.specs.Prelude.{◌≡◌, ◌≤◌, length};
 ghost use Rattle.cycles.specs.Text.{Written};
 ghost use Rattle.cycles.specs.Lines.{word_in, printed};
 ghost use Rattle.cycles.specs.Reports.{longest_text};
@@ -13,17 +13,11 @@ const LINE: usize = 19;
 // Places enough for the text of every report: a line for each word, and one for the cover.
 pub(crate) const TEXT: usize = (PLACES + 1) * LINE;
 
-// How many bytes of the input are its word: all, but for one final byte 10.
-fn word_length(input: &[u8]) -> usize
-    ensures upper_bound { result ≤ length input.now }
-    ensures input_value { take result input.now ≡ word_in input.now }
+// The word of an input: all of its bytes, but for one final byte 10.
+fn word_of(input: &[u8]) -> &[u8]
+    ensures { result.now ≡ word_in input.now }
 {
-    let n = input.len();
-    if 0 < n && input[n - 1] == b'\n' {
-        n - 1
-    } else {
-        n
-    }
+    input.strip_suffix(b"\n").unwrap_or(input)
 }
 
 // Writes what is printed for a word, and returns the number of bytes: the text of its report, or the line of its refusal.
@@ -43,6 +37,5 @@ pub(crate) fn answer(input: &[u8], text: &mut [u8]) -> usize
     requires { longest_text ≤ length text.old }
     ensures { Written (printed (word_in input.now)) text.old text.new result }
 {
-    let n = word_length(input);
-    write_answer(&input[..n], text)
+    write_answer(word_of(input), text)
 }

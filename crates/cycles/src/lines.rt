@@ -71,7 +71,7 @@ pub(crate) fn write_refusal(refusal: Refusal, text: &mut [u8]) -> usize
     write_line(b"refused", &[number, value], text)
 }
 
-// Writes the line of an Abelian period.
+// Writes the line of an Abelian period, head and period apart as in the output word.
 fn write_period(head: Head, period: Period, text: &mut [u8]) -> usize
     requires { length (period_line (pair head.0 period.0)) ≤ length text.old }
     ensures { Written (period_line (pair head.0 period.0)) text.old text.new result }

@@ -48,6 +48,7 @@ impl Display for Failure {
 // Reads input into the slice until that is full or the input ends; one read may bring fewer bytes than there will be. Where the reader's
 // bytes are known, the slice has the first of them, and they alone are read. The loop stays a `while`, since each read says how far it goes, and
 // std's method that reads on to the end fills a `Vec`, while this program has no heap.
+#[tactic(auto, using(crate::proofs::Reading::read_more))]
 fn read_input<R: Read>(reader: &mut R, input: &mut [u8]) -> std::io::Result<usize>
     ensures within { bytes_read result ≤ length input.new }
     ensures first { IfOk result (λ n. IfSome (R.remaining reader.old) (λ xs. take n input.new ≡ take (length input.new) xs)) }

@@ -1,5 +1,6 @@
 // The tracker's calls for C. The caller keeps a tracker as its five fields, the length, the bytes, the board and the two totals, and lends them to
-// each call that may change the tracker, which works on them in place. A list and a count are lent the first three.
+// each call that may change the tracker, which works on them in place. A list and a count are lent the first three. `Fields` is written out at each call, for the reason that stands over it
+// in `tracker`.
 ghost use Rattle.std.specs.Prelude.{◌≡◌, ℕ};
 ghost use Rattle.abelian.specs.Trackers.{fresh_tracker, adding, taking_back, clearing, tracker_listing, tracker_count};
 ghost use Rattle.tracker.specs.Fields.{of_fields, as_step};

@@ -1,6 +1,6 @@
 // What the calls return to C: a struct of numbers for each kind of answer, and how it is made of the answer. `refusal` is the refusal's
 // number, or 0 where the call is accepted, and `value` the refusal's value; a number that the answer does not name is 0. The structs are those of the C header, so that two
-// may have the same shape, and a test is a number.
+// may have the same shape, and a test is a number. They have no struct in common, so that each writes its own refusal's two numbers and its own zeros.
 ghost use Rattle.std.specs.Prelude.{◌≡◌, List, ℕ, []};
 ghost use Rattle.abelian.specs.Answers.{answered_covered, answered_listed, answered_needed, answered_outcome, answered_scaled, answered_verdict, answered_wrote, refusing};
 ghost use Rattle.luffbutton.specs.Numbers.{verdict_numbers, cover_numbers, outcome_numbers, listed_numbers, scaled_numbers, wrote_numbers, counted_numbers, replayed_numbers};
@@ -209,10 +209,10 @@ impl From<Result<usize, Refusal>> for LuffWrote {
 
     fn from(answer: Result<usize, Refusal>) -> LuffWrote {
         match answer {
-            Ok(words) => LuffWrote {
+            Ok(written) => LuffWrote {
                 refusal: 0,
                 value: 0,
-                written: words,
+                written,
             },
             Err(refusal) => LuffWrote {
                 refusal: refusal.number(),

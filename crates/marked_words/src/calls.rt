@@ -23,14 +23,11 @@ const ROOM: usize = LONGEST_RECORD + 1;
 // The most places of a slice that a line can ask for.
 const MOST_PLACES: usize = 99;
 
-// The number of a digit, 0 for any other byte and no None, so that the program does on every line what it did.
+// The number of a digit, 0 for any other byte.
 fn digit(byte: u8) -> usize
     ensures { result ≤ 9 }
 {
-    match byte {
-        b'0'..=b'9' => (byte - b'0') as usize,
-        _ => 0,
-    }
+    (byte as char).to_digit(10).unwrap_or(0) as usize
 }
 
 // The number of two digits.
@@ -90,7 +87,8 @@ struct Call<'a> {
 }
 
 impl Call<'_> {
-    // Makes the list call, and prints those of its numbers that are no words. The letters are no enum: any other one is the report too, but by kind.
+    // Makes the list call, and prints those of its numbers that are no words. The letters are no enum, which would need a case for any other letter: that is the report, with
+    // its words by kind.
     fn list<W: Write>(self, to: &mut W, out: &mut [u32]) -> io::Result<Result<usize, Refusal>> {
         let body = self.body;
         match self.letter {
@@ -110,7 +108,7 @@ impl Call<'_> {
         }
     }
 
-    // Makes the list call with a slice of so many places, all unwritten, and prints what it answered and how many places are as they were.
+    // Makes the list call with a slice of so many places, all unwritten, and prints what it answered and how many places are as they were. The form goes by the letter, which is no enum.
     fn run_list<W: Write>(self, to: &mut W, places: usize) -> io::Result<()>
         requires { places ≤ 99 }
     {
@@ -125,7 +123,7 @@ impl Call<'_> {
         say_kept(to, out)
     }
 
-    // Makes the count of the list call.
+    // Makes the count of the list call, by a second match on the letter: one that hands a closure for the list and one for the count to what runs them takes 23 lines more.
     fn count(self) -> Result<usize, Refusal> {
         let body = self.body;
         match self.letter {
@@ -185,7 +183,7 @@ fn of_windows(digits: [u8; 2], body: &[u8]) -> Call<'_> {
 }
 
 // Makes the call that is known by the letter, and prints what it answered. The two bytes are the judge's head and period, or say with how many
-// places a list is called, or that it is counted.
+// places a list is called, or that it is counted. One match on the letter: the gate refuses a function that hands out function pointers.
 pub(crate) fn run_call<W: Write>(
     to: &mut W,
     letter: u8,

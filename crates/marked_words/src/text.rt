@@ -21,7 +21,8 @@ pub(crate) enum Form {
 }
 
 // Prints an output word by its kind: a period as h,p, a square as start:half, a full period as p*(n / p), a run as i/d and behind it its end
-// and its hands, j<left>right, a window as @start. One of any other kind is printed as the number that it is.
+// and its hands, j<left>right, a window as @start. One of any other kind is printed as the number that it is. `cycles` takes its words apart likewise: one function for both would be no
+// plainer, since each part is one expression.
 fn say_by_kind<W: Write>(to: &mut W, word: u32) -> io::Result<()> {
     let upper = word / UPPER % UPPER;
     let lower = word % UPPER;

@@ -42,7 +42,8 @@ fn say_tracker<W: Write>(to: &mut W, tracker: &Tracker) -> io::Result<()> {
 }
 
 // Makes the call that a byte stands for, as in a log: a take-back, a clear, or an add of the byte. It is a match and no table of
-// functions: add alone takes the byte, and the gate refuses a function that hands out function pointers.
+// functions: add alone takes the byte, and the gate refuses a function that hands out function pointers. It does not go by the `Call` of `history`, which is that crate's own, so
+// that what is printed tries `history::replay` by another reading of the bytes.
 fn call(tracker: &mut Tracker, byte: u8) -> Result<(), Refusal> {
     match byte {
         b'-' => take_back(tracker),
@@ -59,7 +60,7 @@ fn say_call<W: Write>(to: &mut W, tracker: &mut Tracker, byte: u8) -> io::Result
     say_tracker(to, tracker)
 }
 
-// Calls the tracker's count, and prints what it answered and the tracker as the call left it.
+// Calls the tracker's count, and prints what it answered and the tracker as the call left it. It and `say_call` stay two functions, as their answers are printed by two.
 fn say_counted<W: Write>(to: &mut W, tracker: &Tracker) -> io::Result<()> {
     let answer = count(tracker);
     begin_line(to, b'=')?;
@@ -79,7 +80,8 @@ fn full() -> Tracker {
 }
 
 // Makes the call of a byte on the tracker. `=` is a count, for which a log has no byte. Four bytes stand for no call, but set the tracker by hand:
-// `*` makes it full, `#` sets its length to 241, `_` its first byte to 0, and `0` the entry of (0, 1), which is the first of the board, to 0.
+// `*` makes it full, `#` sets its length to 241, `_` its first byte to 0, and `0` the entry of (0, 1), which is the first of the board, to 0. It is a match and no table of functions,
+// which would be no plainer: some of its arms store, and some print.
 fn run_byte<W: Write>(to: &mut W, tracker: &mut Tracker, byte: u8) -> io::Result<()> {
     match byte {
         b'*' => *tracker = full(),
