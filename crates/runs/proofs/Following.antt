@@ -1,12 +1,11 @@
 -- How far a chain of squares has been followed in a row of marks.
-use Rattle.std.proofs.Common.{◌≡◌, ◌∙◌, ◌+◌, ◌-◌, ◌*◌, ◌≤◌, ℕ, suc, Bool, true, false, List, T, sym, ap, arith, length, get_or}
+use Rattle.std.proofs.Common.{◌≡◌, ◌∙◌, ◌+◌, ◌-◌, ◌*◌, ◌≤◌, ℕ, Bool, true, false, List, T, sym, arith, length, get_or}
 use lib.Dec.{eqb}
 use Rattle.abelian.specs.Squares.{is_square}
 use Rattle.abelian.specs.Runs.{run_end}
 use Rattle.abelian.proofs.Tests.{passes, fails}
 use Rattle.squares.specs.Marks.{start_marks}
-use Rattle.squares.proofs.Candidates.{length-start_marks}
-use Rattle.runs.proofs.Marks.{mark_told}
+use Rattle.runs.proofs.Marks.{row_length, mark_told}
 use Rattle.runs.proofs.Chains.{Chain, chain_one, chain_more, chain_end}
 
 -- the squares of half length d from i to `last` are a chain, and `next` is one block further on
@@ -14,10 +13,6 @@ pub record Following (w marks : List ℕ) (d i last next : ℕ) : Type 0 where
   pub within : last ≤ length marks
   pub place : next ≡ last + d
   pub chain : Chain w d i last
-
--- a start is a candidate where both blocks lie in the word
-pub row_length : (w : List ℕ) (d : ℕ) {marks : List ℕ} → marks ≡ start_marks w d → length marks ≡ suc (length w) - 2 * d
-row_length w d e = ap length e ∙ length-start_marks w d
 
 module _ {w marks : List ℕ} {d i : ℕ} (e : marks ≡ start_marks w d) (start : 1 ≤ i) where
   pub following_one : i ≤ length marks → T (is_square w d i) → Following w marks d i i (i + d)

@@ -20,10 +20,14 @@ pub starts_square : (w : List ℕ) (d i : ℕ) → starts_run w d i ≡ true →
 unfolding starts_run
 starts_square w d i e = right (not (goes_back w d i)) (is_square w d i) (passes (starts_run w d i) e)
 
+-- a start is a candidate where both blocks lie in the word
+pub row_length : (w : List ℕ) (d : ℕ) {marks : List ℕ} → marks ≡ start_marks w d → length marks ≡ suc (length w) - 2 * d
+row_length w d e = ap length e ∙ length-start_marks w d
+
 module _ (w marks : List ℕ) (d i : ℕ) (e : marks ≡ start_marks w d) (start : 1 ≤ i) (within : i ≤ length marks) where
   -- how far the candidates go
   candidates : i ≤ suc (length w) - 2 * d
-  candidates = omega (arith, ap length e, length-start_marks w d)
+  candidates = omega (arith, row_length w d e)
 
   -- the mark of a candidate is 1 where a square stands there, and else 0
   mark_at : get_or marks (i - 1) 0 ≡ one (is_square w d i)

@@ -2,7 +2,8 @@
 use Rattle.std.proofs.Common.{arith}
 use borrow.Author.Tests.{eq-eqb, ne_eqb}
 use Rattle.abelian.specs.Words.{longest}
-use Rattle.runs.proofs.Following.{row_length, following_one, following_more, following_end}
+use Rattle.runs.proofs.Marks.{row_length}
+use Rattle.runs.proofs.Following.{following_one, following_more, following_end}
 use Rattle.runs.proofs.hands.run_end.Goals as goal
 use Rattle.runs.proofs.hands.run_end.Goals.{else-loop-next-test, then-loop-next-test+then-marks-next-ne1, then-loop-next-test+else-marks-next-ne1+else-period-next-end}
 

@@ -4,9 +4,8 @@ use borrow.Rule.Slice.PartMut.{put_mid}
 use Rattle.abelian.specs.Output.{fill}
 use Rattle.abelian.specs.Runs.{run_at, words_of_run}
 use Rattle.words.proofs.Lists.{fill_lent}
-use Rattle.squares.proofs.Candidates.{length-start_marks}
 use Rattle.runs.specs.Rows.{starts_run, row_words}
-use Rattle.runs.proofs.Marks.{starts_square}
+use Rattle.runs.proofs.Marks.{row_length, starts_square}
 use Rattle.runs.proofs.Rows.{words_up_to, all_starts, words_rise, words_one_more, words_no_more}
 use Rattle.runs.proofs.output.write_row.Invariants.{Writing}
 use Rattle.runs.proofs.output.write_row.Goals as goal
@@ -66,7 +65,7 @@ module _ {w : List ℕ} {d : ℕ} {before out : List ℕ} {at s : ℕ} (h : Writ
 -- what is known at a start
 module _ (c : After-starts_run) where
   size : length c.args.row.now.marks.now ≡ suc (length c.args.row.now.word.now) - 2 * c.args.row.now.period
-  size = ap length c.args.row.now.marked ∙ length-start_marks c.args.row.now.word.now c.args.row.now.period
+  size = row_length c.args.row.now.word.now c.args.row.now.period c.args.row.now.marked
 
   candidate : c.loop-start.start ≤ suc (length c.args.row.now.word.now) - 2 * c.args.row.now.period
   candidate = omega (arith, size)
@@ -96,7 +95,7 @@ start_further c =
     let row = c.args.row.now in
     let h = c.loop-start.invariant in
     let W : List ℕ → ℕ → Type 0 = λ out at. Writing row.word.now row.period c.args.out.now out at (c.loop-start.start + 1) in
-    let within : c.loop-start.start ≤ suc (length row.word.now) - 2 * row.period = omega (arith, ap length row.marked, length-start_marks row.word.now row.period) in
+    let within : c.loop-start.start ≤ suc (length row.word.now) - 2 * row.period = omega (arith, row_length row.word.now row.period row.marked) in
     elim c.if-starts_run.branch [
       | then-starts_run w ↦
           subst (λ (at : ℕ). W c.if-starts_run.out at) (sym w.at-is)
@@ -113,12 +112,12 @@ loop-start-preserved c = start_further (goal.at.loop-start-preserved c).Joined-s
 pub returns : goal.returns
 returns c =
     let row = c.args.row.now in
-    let past : suc (length row.word.now) - 2 * row.period < c.loop-start.start = omega (arith, ap length row.marked, length-start_marks row.word.now row.period) in
+    let past : suc (length row.word.now) - 2 * row.period < c.loop-start.start = omega (arith, row_length row.word.now row.period row.marked) in
     record { value = all_reached c.loop-start.invariant past; out_after = all_written c.loop-start.invariant past }
 
 pub returns-after-starts_run : goal.returns-after-starts_run
 returns-after-starts_run c =
     let row = c.args.row.now in
     let h = start_further (goal.at.returns-after-starts_run c).Joined-starts_run in
-    let past : suc (length row.word.now) - 2 * row.period < c.loop-start.start + 1 = omega (arith, ap length row.marked, length-start_marks row.word.now row.period) in
+    let past : suc (length row.word.now) - 2 * row.period < c.loop-start.start + 1 = omega (arith, row_length row.word.now row.period row.marked) in
     record { value = all_reached h past; out_after = all_written h past }

@@ -5,7 +5,7 @@ use Rattle.abelian.specs.Output.{run_word, hands_word, fill}
 use Rattle.abelian.specs.Runs.{left_fits, right_fits, left_hand, right_hand, run_end, run_at, words_of_run}
 use Rattle.abelian.proofs.Largest.{most-le}
 use Rattle.abelian.proofs.Blocks.{end_within}
-use Rattle.squares.proofs.Candidates.{length-start_marks}
+use Rattle.runs.proofs.Marks.{row_length}
 use Rattle.runs.specs.declared.hands.Side.{Side}
 use Rattle.runs.specs.declared.hands.Side.TheVariants.{Before, Behind}
 use Rattle.runs.specs.Hands.{room, beside_fits, hand_of}
@@ -33,7 +33,7 @@ two-places (x ∷ y ∷ out) a b h = refl
 module _ (c : After-run_end-end) where
   -- the square lies in the word
   inside : c.args.start + 2 * c.args.row.now.period ≤ length c.args.row.now.word.now + 1
-  inside = omega (arith, c.requires.start_in_bounds, ap length c.args.row.now.marked, length-start_marks c.args.row.now.word.now c.args.row.now.period)
+  inside = omega (arith, c.requires.start_in_bounds, row_length c.args.row.now.word.now c.args.row.now.period c.args.row.now.marked)
 
   -- and so do the blocks
   ends-inside : c.run_end-end.result ≤ length c.args.row.now.word.now

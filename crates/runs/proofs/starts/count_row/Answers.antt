@@ -1,7 +1,7 @@
 -- `runs::starts::count_row` meets its contract: a start of a run adds two words.
 use Rattle.std.proofs.Common.{◌≡◌, ◌∙◌, ◌+◌, ◌-◌, ◌*◌, ◌≤◌, ◌<◌, ℕ, suc, List, true, false, sym, ap, subst, arith, length, length-append}
 use Rattle.abelian.specs.Runs.{run_at, words_of_run}
-use Rattle.squares.proofs.Candidates.{length-start_marks}
+use Rattle.runs.proofs.Marks.{row_length}
 use Rattle.runs.specs.Rows.{starts_run, row_words}
 use Rattle.runs.proofs.Rows.{words_up_to, all_starts, words_one_more, words_no_more}
 use Rattle.runs.proofs.starts.count_row.Invariants.{Counting}
@@ -29,7 +29,7 @@ all_counted {w} {d} {found} {s} h past = h.counted ∙ ap length (all_starts w d
 -- how far the candidates go
 module _ (c : Joined-starts_run) where
   size : length c.args.row.now.marks.now ≡ suc (length c.args.row.now.word.now) - 2 * c.args.row.now.period
-  size = ap length c.args.row.now.marked ∙ length-start_marks c.args.row.now.word.now c.args.row.now.period
+  size = row_length c.args.row.now.word.now c.args.row.now.period c.args.row.now.marked
 
   counted_further : Counting c.args.row.now.word.now c.args.row.now.period c.if-starts_run.found (c.loop-start.start + 1)
   counted_further =
@@ -47,7 +47,7 @@ loop-start-preserved c = counted_further (goal.at.loop-start-preserved c).Joined
 pub returns : goal.returns
 returns c =
     let row = c.args.row.now in
-    all_counted c.loop-start.invariant (omega (arith, ap length row.marked, length-start_marks row.word.now row.period))
+    all_counted c.loop-start.invariant (omega (arith, row_length row.word.now row.period row.marked))
 
 pub returns-after-starts_run : goal.returns-after-starts_run
 returns-after-starts_run c =
