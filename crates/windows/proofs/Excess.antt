@@ -1,6 +1,5 @@
 -- Laws of the excess of one vector's counts over another's, modulo 2^8.
-use Rattle.std.proofs.Common.{cond, count_by, ◌≡◌, ℕ, zero, suc, ◌+◌, ◌-◌, ◌%◌, ◌^◌, ◌<◌, ◌≤◌, Bool, true, false, not, ◌&&◌, eqb, List, [], ◌∷◌, length, get_or, set, sym, refl, ap, ◌∙◌, ⊎_elim, mod-eq_of_lt, arith, eq-eqb, ne_eqb, eqb-true}
-use Rattle.std.proofs.lemmas.List.Recursion.{is_count_by}
+use Rattle.std.proofs.Common.{◌≡◌, ℕ, zero, suc, ◌+◌, ◌-◌, ◌%◌, ◌^◌, ◌<◌, ◌≤◌, Bool, true, false, not, ◌&&◌, eqb, List, [], ◌∷◌, length, get_or, set, take, sym, refl, ap, ◌∙◌, ⊎_elim, mod-eq_of_lt, arith, eq-eqb, ne_eqb, eqb-true}
 use native.Mathlib.Nat.{mod-add-mod, add-mod_right}
 use borrow.Author.Tests.{eqb-false}
 use Rattle.abelian.specs.Lists.{one, same}
@@ -74,14 +73,12 @@ pub zero_or_not : (b : Bool) → one b + one (not b) ≡ 1
 zero_or_not true = refl
 zero_or_not false = refl
 
--- as many as pass the test
-pub nonzero_counted : (u : List ℕ) → nonzero u ≡ count_by (λ (x : ℕ). not (eqb x 0)) u
+-- one number more
+pub nonzero-more : (u : List ℕ) (j : ℕ) → j < length u → nonzero (take (suc j) u) ≡ nonzero (take j u) + one (not (eqb (get_or u j 0) 0))
 unfolding nonzero
-nonzero_counted u = is_count_by nonzero (λ (x : ℕ). not (eqb x 0)) refl (λ x xs. go (eqb x 0) (nonzero xs)) u
-  where
-    go : (b : Bool) (n : ℕ) → one (not b) + n ≡ cond (not b) (1 + n) n
-    go true n = omega arith
-    go false n = refl
+nonzero-more [] j l = absurd (omega arith)
+nonzero-more (a ∷ u) zero l = omega arith
+nonzero-more (a ∷ u) (suc j) l = omega (arith, nonzero-more u j (omega arith))
 
 -- no more than there are
 pub nonzero-le : (u : List ℕ) → nonzero u ≤ length u

@@ -29,11 +29,15 @@ fn subtract(counts: [u8; LETTERS], wanted: [u8; LETTERS]) -> [u8; LETTERS]
     entries
 }
 
-// How many entries are not 0.
+// How many entries are not 0. A loop that adds 0 or 1 for each becomes a few vector instructions; `filter` and `count` branch at each entry, and a call on a short record took up to twice as long.
 fn count_nonzero(entries: [u8; LETTERS]) -> usize
     ensures { result ≡ nonzero entries }
 {
-    entries.iter().filter(|entry| **entry != 0).count()
+    let mut found = 0;
+    for entry in &entries {
+        found += (*entry != 0) as usize;
+    }
+    found
 }
 
 // Adds to one entry, modulo 2^8, and returns how many entries are not 0 then, by how many were not before. The number is handed on beside the entries: a struct of both was tried,
