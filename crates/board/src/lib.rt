@@ -103,7 +103,9 @@ fn write_row(row: &[u8], period: Period, out: &mut [u32]) -> usize
 }
 
 // Writes the words of the pairs in range for n whose entry is 0 to the first places, in pair order. The start is carried as in `count_open`. The two are not one loop, which
-// would be no plainer: what is done with a row would be a closure, and the loop's contract would say what it does.
+// would be no plainer: what is done with a row would be a closure, and the loop's contract would say what it does. It stays a function by itself: written out in a call that has more values
+// at hand, its loop took 1.2 times as long.
+#[inline(never)]
 pub fn write_open(board: &[u8; BOARD], n: usize, out: &mut [u32])
     requires n_le_longest { n ≤ longest }
     requires board_in_bounds { length (open_pairs n board.now) ≤ length out.old }
