@@ -30,7 +30,7 @@ use std::io;
 use std::io::{BufWriter, Read, Write};
 
 // How many bytes of the input are read at most.
-const LONGEST_INPUT: u64 = 65536;
+const LONGEST_INPUT: usize = 65536;
 
 // Makes the call of a line, if it is no heading.
 fn run_line<W: Write>(to: &mut W, line: &[u8]) -> io::Result<()> {
@@ -53,9 +53,12 @@ fn run_lines<W: Write>(to: &mut W, text: &[u8]) -> io::Result<()> {
     Ok(())
 }
 
+// The input's room is asked for once, with one byte more than are read, so that no read makes it grow: by growing it would take twice the memory.
 fn main(rt: HostRuntime) -> io::Result<()> {
-    let mut input = Vec::new(rt.alloc());
-    rt.reader().take(LONGEST_INPUT).read_to_end(&mut input)?;
+    let mut input = Vec::with_capacity(rt.alloc(), LONGEST_INPUT + 1)?;
+    rt.reader()
+        .take(LONGEST_INPUT as u64)
+        .read_to_end(&mut input)?;
     let mut to = BufWriter::new(rt.alloc(), io::writer(&rt))?;
     run_lines(&mut to, &input)?;
     to.flush()
