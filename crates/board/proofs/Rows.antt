@@ -1,15 +1,15 @@
 -- Laws of rows: the open pairs of a board, row by row, and their output words.
 use mathlib.Core.Path.{◌≡◌, refl, sym, ap, ap₂, ◌∙◌}
 use mathlib.Core.Bool.{Bool, true, false}
-use mathlib.Core.List.{List, [], ◌∷◌, ◌++◌, map}
+use mathlib.Core.List.{List, [], ◌∷◌, ◌++◌, map, map-append}
 use Prim.Native.Nat.{ℕ, zero, suc, ◌+◌, ◌-◌, ◌*◌, ◌≤◌, ◌<◌}
 use native.Mathlib.Nat.{mul-le-mul}
 use native.Mathlib.Numerals.{add-one}
 use native.Mathlib.Omega.{arith}
 use mir.Syntax.{w64}
 use mir.Val.{Fits}
-use lib.ListN.{length, take, drop, get_or, length-append, length-take, length-map}
-use lib.Seq.{drop-cons}
+use lib.ListN.{length, take, drop, get_or, set, length-append, length-take, length-map}
+use lib.Seq.{sets, drop-cons}
 use lib.Dec.{T, eqb, leb}
 use borrow.Author.Tests.{leb-true}
 use Rattle.abelian.specs.Lists.{one, up_from, all, each, put, keep}
@@ -22,6 +22,12 @@ use Rattle.abelian.proofs.Lists.{all-mem, up_from-mem, up_from-append, keep_appe
 use Rattle.board.specs.Places.{row_start, place_of, is_open}
 use Rattle.board.specs.Rows.{row_words}
 use Rattle.board.proofs.Places.{next_row, pairs_where-in_range}
+
+-- ---- stores one behind the other
+
+pub sets_append : (l : List ℕ) (i : ℕ) (vs ws : List ℕ) → sets l i (vs ++ ws) ≡ sets (sets l i vs) (i + length vs) ws
+sets_append l i [] ws = let e : i + 0 ≡ i = omega arith in rw e
+sets_append l i (v ∷ vs) ws = let e : i + suc (length vs) ≡ suc i + length vs = omega arith in rw e (sets_append (set l i v) (suc i) vs ws)
 
 -- ---- a row's words
 
@@ -103,6 +109,17 @@ pub open_up_to_counts : (n : ℕ) (board : List ℕ) (p : ℕ) → 1 ≤ p → r
 open_up_to_counts n board p l u =
     let opened = keep (is_open board) (row n p) in
     omega (arith, ap length (open_up_to_more n board p l), length-append (open_up_to n board (p - 1)) opened, row_count board n p u)
+
+-- a row's words stored behind those of the rows before it
+pub row-stored : (n : ℕ) (board old out : List ℕ) (at p : ℕ) → 1 ≤ p → row_start p + heads n p ≤ length board → at ≡ length (open_up_to n board (p - 1)) → out ≡ sets old 0 (map period_word (open_up_to n board (p - 1)))
+    → sets out at (row_words p 0 (part board (row_start p) (heads n p))) ≡ sets old 0 (map period_word (open_up_to n board p))
+row-stored n board old out at p l u a o =
+    let before = open_up_to n board (p - 1) in
+    let opened = keep (is_open board) (row n p) in
+    let words : map period_word (open_up_to n board p) ≡ map period_word before ++ map period_word opened =
+    ap (map period_word) (open_up_to_more n board p l) ∙ map-append period_word before opened in
+    let placed : at ≡ 0 + length (map period_word before) = omega (arith, a, length-map before period_word) in
+    rw (row_words_lem board n p u, placed, o, words) (sym (sets_append old 0 (map period_word before) (map period_word opened)))
 
 -- more rows have no fewer open pairs
 pub open_up_to_rises : (n : ℕ) (board : List ℕ) {m k : ℕ} → m ≤ k → length (open_up_to n board m) ≤ length (open_up_to n board k)

@@ -16,7 +16,7 @@ use Rattle.abelian.proofs.Tests.{is_true}
 use Rattle.abelian.proofs.Pairs.{InRange, range_in, in_range_longer}
 use Rattle.board.specs.Places.{place_of, row_start, entry_at}
 use Rattle.board.specs.Ending.{entry_in_row}
-use Rattle.board.proofs.Places.{place_below}
+use Rattle.board.proofs.Places.{place_below, entries_of, length-board_of}
 use Rattle.board.proofs.RowLent.{with_row, row_read, row_stored}
 use Rattle.board.proofs.EndedBoards.{up_to, next_up_to}
 use Rattle.board.proofs.EndedRows.{below, entry_untouched, next_below}
@@ -73,6 +73,10 @@ next_passed n lowest old board board' (suc m) long l e f =
     let d' : suc m + 1 - 1 ≡ suc m = omega arith in
     let now : board ≡ board_of (up_to (entry_passed n lowest) m old) = rw d at e in
     rw d' (f ∙ ap (entries (entry_in_row (entry_passed n lowest) (suc m)) (pairs longest)) now ∙ next_up_to (entry_passed n lowest) old long m)
+
+pub length_passed : (n : ℕ) (lowest board : List ℕ) → length board ≡ board_size → length (all_passed n lowest board) ≡ board_size
+unfolding all_passed
+length_passed n lowest board long = ap length (entries_of (entry_passed n lowest) board long) ∙ length-board_of _
 
 -- by what the skipping lister finds of the word, which is given as v: the lowest periods and its length
 pub others_are_passed : {w v lowest after : List ℕ} (board : List ℕ) {n : ℕ} → v ≡ w → lowest ≡ lowest_periods v → n ≡ length w → after ≡ all_passed n lowest board → after ≡ others_passed w board

@@ -9,6 +9,8 @@ use native.Mathlib.Omega.{arith}
 use lib.ListN.{length, take, get_or, set, length-map, length-set, get_or-replicate, length-replicate, replicate, length-take}
 use lib.Seq.{ext_get_or, get_or-set_same, get_or-set_other, take_all}
 use lib.Dec.{eqb}
+use mir.Val.{Fits}
+use mir.Syntax.{w64}
 use borrow.Author.Tests.{eqb-true, eqb-false}
 use Rattle.abelian.specs.Lists.{up_from}
 use Rattle.abelian.specs.Words.{alphabet_size, first_letter, longest, letters, count}
@@ -21,7 +23,7 @@ use Rattle.words.specs.Prefixes.{Counted}
 use Rattle.words.proofs.Padded.{zeros_at}
 use Rattle.words.proofs.Prefixes.{prefix_row_at, counted_row}
 use Rattle.listers.specs.Lowest.{positions, no_positions}
-use Rattle.listers.proofs.Select.{count_here, count_elsewhere, occurrence_is, occurrence-none}
+use Rattle.listers.proofs.Select.{count_here, count_elsewhere, occurrence_is, occurrence-none, occurrence-length}
 
 module _ (w : List ℕ) where
   -- a row has one entry for each number of occurrences, from none before it to the longest word's length
@@ -66,6 +68,9 @@ module _ {w : List ℕ} {table : List (List ℕ)} (t : Counted w table) (i : ℕ
     pub letter_counted : get_or (get_or table k []) (letter - first_letter) 0 ≡ count letter (take k w)
     letter_counted = counted_entry t k b (letter - first_letter) letter_place.0 ∙ ap (λ (c : ℕ). count c (take k w)) letter_place.1
 
+    pub letter_small : get_or (get_or table k []) (letter - first_letter) 0 ≤ k
+    letter_small = omega (arith, letter_counted, count-le-length letter (take k w), length-take k w)
+
   -- and an entry of its row in the table of positions
   module _ {select : List (List ℕ)} (e : select ≡ positions w) (k : ℕ) (b : k ≤ longest) where
     pub letter_position : get_or (get_or select (letter - first_letter) []) k 0 ≡ occurrence letter (suc k) w
@@ -73,6 +78,10 @@ module _ {w : List ℕ} {table : List (List ℕ)} (t : Counted w table) (i : ℕ
         ap (λ (a : List (List ℕ)). get_or (get_or a (letter - first_letter) []) k 0) e
         ∙ position_at w (letter - first_letter) k letter_place.0 b
         ∙ ap (λ (c : ℕ). occurrence c (suc k) w) letter_place.1
+
+    pub position_fits : Fits w64 (get_or (get_or select (letter - first_letter) []) k 0)
+    unfolding longest
+    position_fits = omega (arith, letter_position, occurrence-length letter (suc k) w (omega arith), t.short)
 
 -- ---- the loop that fills the table
 

@@ -15,7 +15,7 @@ use Rattle.abelian.specs.Output.{pattern_word}
 use Rattle.abelian.specs.Patterns.{largest_alphabet, longest_square_free, words_over, square_free, square_free_words, read_in, pattern_words}
 use Rattle.abelian.proofs.Tests.{is_true, is_false, passes, fails}
 use Rattle.abelian.proofs.Lists.{mem-up_from}
-use Rattle.patterns.specs.Search.{with_letter, ends_square, found, Numbered}
+use Rattle.patterns.specs.Search.{with_letter, ends_square, found, Totals, Numbered}
 use Rattle.patterns.specs.SquareFree.{Over}
 use Rattle.patterns.proofs.Lists.{each_agree, keep-each, map_each, each_shift}
 use Rattle.patterns.proofs.Beginnings.{beginning_free, empty_free}
@@ -117,6 +117,13 @@ module _ (n : ℕ) (h : n ≤ longest_square_free) where
   no_letters =
       drop-cons zeros n 0 (omega (arith, length_zeros))
       ∙ ap₂ (λ (a : ℕ) (l : List ℕ). a ∷ l) (zeros_at n (omega arith)) (drop_of_length-le zeros {i = suc n} (omega (arith, length_zeros)))
+
+  pub no_letters_totals : Totals zeros n
+  no_letters_totals = record {
+    within = omega (arith, length_zeros);
+    short = omega (arith, length_zeros);
+    small = λ i from to. omega (arith, length_zeros, zeros_at i (omega (arith, length_zeros)));
+  }
 
   -- and its words can be numbered
   pub no_letters_numbered : Numbered n 0 0

@@ -25,6 +25,10 @@ pub record Raised (counts : List ℕ) (place : ℕ) (more : List ℕ) (j : ℕ) 
   pub done : (i : ℕ) → i < j → get_or more i 0 ≡ get_or (raised counts place) i 0
 
 module _ {counts : List ℕ} {place : ℕ} where
+  -- before the first place
+  pub raised_none : Raised counts place counts 0
+  raised_none = record { within = omega arith; size = refl; done = λ i m. absurd (omega arith) }
+
   module _ {more : List ℕ} {j : ℕ} (h : Raised counts place more j) where
     -- one place more
     pub raised_more : {v : ℕ} → j < length counts → v ≡ get_or (raised counts place) j 0 → Raised counts place (set more j v) (j + 1)
