@@ -13,7 +13,7 @@ use squares::{list_squares, number_of_squares};
 use words::Word;
 
 // The report's head: n above, and below the cover length, or 0 where there is none, as the output word has it.
-#[tactic(auto, using(crate::proofs::Heads::unwrapped, crate::proofs::Heads::cover_fits), unfolding(abelian::specs::Output::report_head))]
+#[tactic(auto, using(crate::proofs::Heads::unwrapped, crate::proofs::Heads::cover_fits), unfolding(abelian::specs::Output::report_head, abelian::specs::Words::longest))]
 fn head_word(word: &Word) -> u32
     ensures { result ≡ report_head (length word.now) (cover_length word.now) }
 {

@@ -37,7 +37,7 @@ loop-i-preserved c =
       | then-i-letters w ↦ w.row-is ∙ w.count_more-more.ensures ∙ rw c.loop-i.invariant.running (prefix_row_more letters i word.all w.if-i-letters.true)
       | else-i-letters w ↦ w.row-is ∙ c.loop-i.invariant.running ∙ prefix_row_all letters i w.if-i-letters.false
     ] in
-    filled_more letters c.loop-i.table c.loop-i.invariant c.loop-i-test.true next
+    filled_more letters c.loop-i.table c.loop-i.invariant (omega (arith, word.short)) next
 
 pub returns : goal.returns
 unfolding longest
