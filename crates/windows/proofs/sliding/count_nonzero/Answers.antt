@@ -1,11 +1,10 @@
 -- `windows::sliding::count_nonzero` meets its contract: one entry more is 0 or not.
-use Rattle.std.proofs.Common.{not, eqb, get_or, take, refl, add-one, arith}
+use Rattle.std.proofs.Common.{not, eqb, get_or, take, length-take, refl, add-one, arith}
 use Rattle.abelian.specs.Words.{alphabet_size}
-use Rattle.words.proofs.OneMore.{flag_or_not}
+use Rattle.words.proofs.OneMore.{byte_le_1, flag_or_not}
 use Rattle.windows.specs.Excess.{nonzero}
 use Rattle.windows.proofs.Excess.{zero_or_not, nonzero-more, nonzero-le}
 use Rattle.windows.proofs.sliding.count_nonzero.Goals as goal
-use lib.ListN.{length-take}
 
 pub loop-entry-init : goal.loop-entry-init
 unfolding nonzero
@@ -16,7 +15,7 @@ unfolding alphabet_size
 overflow_add-found c =
     let u = c.args.entries in
     let j = c.loop-entry.entry-index in
-    omega (arith, c.loop-entry.invariant, nonzero-le (take j u), length-take j u, flag_or_not (not (eqb (get_or u j 0) 0)))
+    omega (arith, c.loop-entry.invariant, nonzero-le (take j u), length-take j u, byte_le_1 (not (eqb (get_or u j 0) 0)))
 
 pub loop-entry-preserved : goal.loop-entry-preserved
 loop-entry-preserved c =
